@@ -1,0 +1,4 @@
+pub mod Fit
+pub mod Walk
+pub mod Within
+pub mod Sums

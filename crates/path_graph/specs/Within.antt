@@ -1,0 +1,21 @@
+use Rattle.std.specs.Prelude.{◌≢◌, ℕ, ◌<◌, ℤ, pos, ◌≤ℤ◌, neg_ℤ, List, All}
+use Rattle.path_graph.specs.declared.parts.GraphArc.{GraphArc}
+use Rattle.path_graph.specs.declared.parts.Ends.{Ends}
+use Rattle.path_graph.specs.declared.parts.Values.{Values}
+use Rattle.path_graph.specs.declared.parts.Window.{Window}
+use Rattle.path_graph.specs.Fit.{int_at, window_at}
+
+-- each arc that does not enter the sink has a main consumption of at least 1
+abbrev pub ConsumesBeforeSink : Ends → List GraphArc → Type 0
+ConsumesBeforeSink ends arcs = All (λ arc. arc.head ≢ ends.sink → pos 1 ≤ℤ (int_at arc.needs 0)) arcs
+
+-- the values lie in the windows
+abbrev pub AreWithin : List Window → Values → Type 0
+AreWithin windows value = (k : ℕ) → k < 6 → ((window_at windows k).low ≤ℤ (int_at value.at k)) × ((int_at value.at k) ≤ℤ (window_at windows k).high)
+
+-- in the limits of windows and consumptions
+abbrev pub IsInLimits : ℤ → Type 0
+IsInLimits x = ((neg_ℤ (pos 100000000)) ≤ℤ x) × (x ≤ℤ (pos 100000000))
+
+abbrev pub AreInLimits : List ℤ → Type 0
+AreInLimits xs = (k : ℕ) → k < 6 → IsInLimits (int_at xs k)
