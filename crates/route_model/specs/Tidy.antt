@@ -1,0 +1,25 @@
+-- Tidy plans: equal walks merged, in order by graph, then by arc list.
+use Rattle.std.specs.Prelude.{◌≡◌, ℕ, ◌+◌, ◌<◌, ◌≤◌, ◌^◌, ◌-◌, List, length}
+use Rattle.std.specs.declared.cmp.Ordering.{Ordering}
+use Rattle.std.specs.declared.cmp.Ordering.TheVariants.{Less}
+use Rattle.std.specs.Ordering.{nat_cmp, ordering_then}
+use Rattle.std.specs.Cmp.Lexicographic.{slice_cmp}
+use Rattle.route_model.specs.declared.plan.Taken.{Taken}
+use Rattle.route_model.specs.Parts.{taken_at}
+use Rattle.route_model.specs.Quantities.{quantity, paths_of}
+
+-- how the walks of two paths stand: by graph, then by arc list, number by number
+abbrev pub walk_order : Taken → Taken → Ordering
+walk_order s t = ordering_then (nat_cmp s.graph t.graph) (slice_cmp nat_cmp s.arcs t.arcs)
+
+-- each walk comes before the next, so no two are equal
+abbrev pub IsTidy : List Taken → Type 0
+IsTidy plan = (k : ℕ) → k + 1 < length plan → walk_order (taken_at plan k) (taken_at plan (k + 1)) ≡ Less
+
+-- every quantity is the same in both plans
+abbrev pub KeepsQuantities : List Taken → List Taken → Type 0
+KeepsQuantities old new = (of_walk : ℕ → List ℕ → ℕ) → quantity of_walk new ≡ quantity of_walk old
+
+-- the counts of each graph sum to at most 4,096
+abbrev pub AreFew : List Taken → Type 0
+AreFew plan = (g : ℕ) → paths_of plan g ≤ 4096

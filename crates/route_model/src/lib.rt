@@ -1,0 +1,8 @@
+//! Models, plans, and what makes a plan a solution.
+#![tactic(auto)]
+
+mod parts;
+mod plan;
+
+pub use parts::{BuildFault, Model, Row, RowTerm, Var};
+pub use plan::{Plan, Taken, Verdict};
