@@ -1,5 +1,5 @@
 -- Bounds on values, terms and costs.
-use Rattle.std.proofs.Common.{take, ◌+ℤ◌, FitsSigned, w64, to_z, of_z, negsuc, Bool, false, cond, nat_lt, ◌≡◌, ℕ, ◌+◌, ◌*◌, ◌≤◌, ◌<◌, ◌^◌, List, [], ◌∷◌, length, arith, sym, ◌∙◌, ap, subst, refl, ℤ, pos, neg_ℤ, ◌*ℤ◌, ◌≤ℤ◌, unsigned_abs, get_or}
+use Rattle.std.proofs.Common.{take, ◌+ℤ◌, FitsSigned, w64, to_z, of_z, negsuc, Bool, false, cond, nat_lt, ◌≡◌, ℕ, ◌+◌, ◌≤◌, ◌<◌, List, [], ◌∷◌, length, arith, sym, ap, refl, ℤ, pos, ◌*ℤ◌, ◌≤ℤ◌, unsigned_abs}
 use Rattle.std.proofs.lemmas.Int.{ints, clamps}
 use Rattle.std.proofs.lemmas.Bool.Decides.{nat_tests}
 use Rattle.std.proofs.lemmas.List.{get_or_past}

@@ -10,9 +10,11 @@ mod parts;
 mod plan;
 mod quantities;
 mod solution;
+mod tidying;
 
 pub use costs::box_costs;
 pub use fit::model_fits;
 pub use parts::{BuildFault, Model, Row, RowTerm, Var};
 pub use plan::{Plan, Taken, Verdict};
 pub use solution::judge;
+pub use tidying::tidy;

@@ -1,4 +1,4 @@
-use Rattle.std.proofs.Common.{◌<◌, ◌^◌, lit<}
+use Rattle.std.proofs.Common.{lit<}
 use Rattle.std.specs.Int.{w64}
 use Rattle.path_graph.proofs.SumLemmas.{product_is}
 use Rattle.route_model.proofs.arithmetic.product.Goals as goal
