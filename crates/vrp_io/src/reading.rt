@@ -1,4 +1,4 @@
-ghost use Rattle.std.specs.Prelude.{◌≡◌, ◌≢◌, ◌+◌, ◌<◌, ◌≤◌, length, vec_len, IfOk, OnErr, IsErrOf};
+ghost use Rattle.std.specs.Prelude.{◌≡◌, ◌≢◌, ◌+◌, ◌<◌, ◌≤◌, length, vec_len, IfOk, OnErr};
 ghost use Rattle.std.specs.Io.KnownBytes.{Keeps};
 ghost use Rattle.vrp_io.specs.Counts.{Rose};
 ghost use Rattle.vrp_io.specs.Bytes.{TookAll, TookAtMost, TookExactly, MovesBytes};
@@ -18,11 +18,13 @@ fn read_more<S: Source>(
     bytes: &mut Vec<u8>,
 ) -> Result<usize, ReadFault>
     requires { vec_len bytes.old < most }
-    ensures bytes { IfOk result (λ n. MovesBytes (S.left source.old) (S.left source.new) bytes.old.items bytes.new.items n) }
+    ensures bytes { IfOk result (λ n. MovesBytes (S.left source.old) (S.left source.new)
+        bytes.old.items bytes.new.items n) }
     ensures few { IfOk result (λ n. length bytes.new.items ≤ most) }
     ensures err { OnErr result (Keeps (S.left source.old) (S.left source.new)) }
     ensures later { S.faults source.old ≤ S.faults source.new }
-    ensures read { IsErrOf result ReadFault.Read → Rose (S.faults source.old) (S.faults source.new) }
+    ensures read { result ≡ Err ReadFault.Read →
+        Rose (S.faults source.old) (S.faults source.new) }
     ensures kept { result ≢ Err ReadFault.Read → S.faults source.new ≡ S.faults source.old }
     ensures never_long { result ≢ Err ReadFault.TooLong }
     ensures one { S.calls source.new ≤ S.calls source.old + 1 }
@@ -49,11 +51,14 @@ pub fn read_all<S: Source>(alloc: Global, source: &mut S, limit: u32) -> Result<
     ensures few { IfOk result (λ bytes. length bytes ≤ limit) }
 
     // Too long exactly where one byte more than the limit was taken.
-    ensures long { result ≡ Err ReadFault.TooLong → TookExactly (S.left source.old) (S.left source.new) (limit + 1) }
-    ensures short { result ≢ Err ReadFault.TooLong → TookAtMost (S.left source.old) (S.left source.new) limit }
+    ensures long { result ≡ Err ReadFault.TooLong →
+        TookExactly (S.left source.old) (S.left source.new) (limit + 1) }
+    ensures short { result ≢ Err ReadFault.TooLong →
+        TookAtMost (S.left source.old) (S.left source.new) limit }
 
     // A fault is answered where one came, and none is passed over.
-    ensures read { result ≡ Err ReadFault.Read → Rose (S.faults source.old) (S.faults source.new) }
+    ensures read { result ≡ Err ReadFault.Read →
+        Rose (S.faults source.old) (S.faults source.new) }
     ensures kept { result ≢ Err ReadFault.Read → S.faults source.new ≡ S.faults source.old }
     ensures later { S.faults source.old ≤ S.faults source.new }
 

@@ -1,4 +1,4 @@
-ghost use Rattle.std.specs.Prelude.{◌≡◌, ◌+◌, ◌≤◌, length, OnOk, IsErrOf};
+ghost use Rattle.std.specs.Prelude.{◌≡◌, ◌+◌, ◌≤◌, length, OnOk};
 ghost use Rattle.std.specs.Io.KnownBytes.{Appends};
 ghost use Rattle.vrp_io.specs.Counts.{Rose};
 ghost use Rattle.vrp_io.specs.Bytes.{AppendedPrefix};
@@ -12,7 +12,8 @@ pub fn write_all<K: Sink>(sink: &mut K, bytes: &[u8]) -> Result<(), WriteFault>
     ensures prefix { AppendedPrefix (K.written sink.old) (K.written sink.new) bytes.now }
 
     // A fault is answered where one came, and none is passed over.
-    ensures write { result ≡ Err WriteFault.Write → Rose (K.faults sink.old) (K.faults sink.new) }
+    ensures write { result ≡ Err WriteFault.Write →
+        Rose (K.faults sink.old) (K.faults sink.new) }
     ensures kept { OnOk result (K.faults sink.new ≡ K.faults sink.old) }
     ensures later { K.faults sink.old ≤ K.faults sink.new }
 
