@@ -1,4 +1,7 @@
-ghost use Rattle.std.specs.Prelude.{◌≡◌};
+ghost use Rattle.std.specs.Prelude.{◌≡◌, ◌<◌, length, IfOk, OnErr};
+ghost use Rattle.std.specs.Io.{WritesAtMost};
+ghost use Rattle.std.specs.Io.KnownBytes.{WriteAppends};
+ghost use Rattle.vrp_io.specs.Counts.{next_count, HasCause};
 
 use crate::fault::Failed;
 use crate::sink::Sink;
@@ -37,7 +40,20 @@ impl<W: Write> Sink for StdSink<W> {
 
     ghost calls = { λ s. s.calls };
 
-    fn write(&mut self, piece: &[u8]) -> Result<usize, Failed> {
+    fn write(&mut self, piece: &[u8]) -> Result<usize, Failed>
+        ensures raised { OnErr result (⟦<StdSink<W> as Sink>⟧.faults self.new
+            ≡ next_count (⟦<StdSink<W> as Sink>⟧.faults self.old)) }
+
+        // What every sink promises.
+        ensures bound { WritesAtMost result piece.now }
+        ensures some { IfOk result (λ n. 0 < length piece.now → 0 < n) }
+        ensures bytes { WriteAppends (⟦<StdSink<W> as Sink>⟧.written self.old)
+            (⟦<StdSink<W> as Sink>⟧.written self.new) result piece.now }
+        ensures cause { HasCause (⟦<StdSink<W> as Sink>⟧.faults self.old)
+            (⟦<StdSink<W> as Sink>⟧.faults self.new) result }
+        ensures counted { ⟦<StdSink<W> as Sink>⟧.calls self.new
+            ≡ next_count (⟦<StdSink<W> as Sink>⟧.calls self.old) }
+    {
         self.calls = self.calls.saturating_add(1);
         match self.writer.write(piece) {
             Ok(count) if count > 0 || piece.is_empty() => Ok(count),

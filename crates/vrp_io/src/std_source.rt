@@ -1,4 +1,7 @@
-ghost use Rattle.std.specs.Prelude.{◌≡◌};
+ghost use Rattle.std.specs.Prelude.{◌≡◌, OnErr};
+ghost use Rattle.std.specs.Io.{ReadsAtMost};
+ghost use Rattle.std.specs.Io.KnownBytes.{ReadConsumes};
+ghost use Rattle.vrp_io.specs.Counts.{next_count, HasCause};
 
 use crate::fault::Failed;
 use crate::source::Source;
@@ -36,7 +39,19 @@ impl<R: Read> Source for StdSource<R> {
 
     ghost calls = { λ s. s.calls };
 
-    fn read(&mut self, buf: &mut [u8]) -> Result<usize, Failed> {
+    fn read(&mut self, buf: &mut [u8]) -> Result<usize, Failed>
+        ensures raised { OnErr result (⟦<StdSource<R> as Source>⟧.faults self.new
+            ≡ next_count (⟦<StdSource<R> as Source>⟧.faults self.old)) }
+
+        // What every source promises.
+        ensures bound { ReadsAtMost result buf.new }
+        ensures bytes { ReadConsumes (⟦<StdSource<R> as Source>⟧.left self.old)
+            (⟦<StdSource<R> as Source>⟧.left self.new) result buf.new }
+        ensures cause { HasCause (⟦<StdSource<R> as Source>⟧.faults self.old)
+            (⟦<StdSource<R> as Source>⟧.faults self.new) result }
+        ensures counted { ⟦<StdSource<R> as Source>⟧.calls self.new
+            ≡ next_count (⟦<StdSource<R> as Source>⟧.calls self.old) }
+    {
         self.calls = self.calls.saturating_add(1);
         match self.reader.read(buf) {
             Ok(count) => Ok(count),
