@@ -1,5 +1,5 @@
 -- Sources and sinks in memory: what they hold, and exactly what a read or a write does.
-use Rattle.std.specs.Prelude.{◌≡◌, ℕ, ◌-◌, ◌<◌, List, [], ◌++◌, length, take, drop, min, Contains, ◌⊎◌}
+use Rattle.std.specs.Prelude.{◌≡◌, ℕ, ◌-◌, ◌<◌, ◌↔◌, List, [], ◌++◌, length, take, drop, min, Contains, ◌⊎◌, Result, IsErr, IfOk, OnErr}
 use Rattle.vrp_io.specs.Counts.{next_count}
 
 -- a source: the bytes left, the most that a read gives, the numbers of the reads that fail
@@ -29,6 +29,12 @@ pub record GivesBytes (old new : SourceParts) (buf : List ℕ) (count : ℕ) : T
   pub front : take count buf ≡ take count old.left
   pub after : new ≡ record old { left = drop count old.left; calls = next_count old.calls }
 
+-- what a read of memory does
+pub record ReadsMemory {E : Type 0} (old new : SourceParts) (buf : List ℕ) (result : Result ℕ E) : Type 0 where
+  pub fails : IsErr result ↔ ReadFails old
+  pub gives : IfOk result (λ count. GivesBytes old new buf count)
+  pub failed : OnErr result (new ≡ failed_read old)
+
 -- a sink: the bytes written, the room left, the most that a write takes, the numbers of the writes that fail
 pub record SinkParts : Type 0 where
   pub written : List ℕ
@@ -55,3 +61,9 @@ failed_write s = record s { calls = next_count s.calls; faults = next_count s.fa
 pub record TakesBytes (old new : SinkParts) (bytes : List ℕ) (count : ℕ) : Type 0 where
   pub count_is : count ≡ min old.piece (min old.room (length bytes))
   pub after : new ≡ record old { written = old.written ++ take count bytes; room = old.room - count; calls = next_count old.calls }
+
+-- what a write to memory does
+pub record WritesMemory {E : Type 0} (old : SinkParts) (bytes : List ℕ) (result : Result ℕ E) (new : SinkParts) : Type 0 where
+  pub fails : IsErr result ↔ WriteFails old bytes
+  pub takes : IfOk result (λ count. TakesBytes old new bytes count)
+  pub failed : OnErr result (new ≡ failed_write old)

@@ -1,8 +1,8 @@
-ghost use Rattle.std.specs.Prelude.{◌≡◌, ◌↔◌, ◌<◌, length, Some, IfOk, OnErr, IsErr};
+ghost use Rattle.std.specs.Prelude.{◌≡◌, ◌<◌, length, Some, IfOk};
 ghost use Rattle.std.specs.Io.{WritesAtMost};
 ghost use Rattle.std.specs.Io.KnownBytes.{WriteAppends};
 ghost use Rattle.vrp_io.specs.Counts.{next_count, HasCause};
-ghost use Rattle.vrp_io.specs.Memory.{new_sink, WriteFails, failed_write, TakesBytes};
+ghost use Rattle.vrp_io.specs.Memory.{new_sink, WritesMemory};
 
 use crate::fault::Failed;
 use crate::numbers::is_failing;
@@ -74,10 +74,10 @@ impl Sink for MemSink {
 
     ghost calls = { λ s. s.calls };
 
+    ghost wrote = { λ s bytes r t. WritesMemory s bytes r t };
+
     fn write(&mut self, piece: &[u8]) -> Result<usize, Failed>
-        ensures fails { IsErr result ↔ WriteFails self.old piece.now }
-        ensures takes { IfOk result (λ n. TakesBytes self.old self.new piece.now n) }
-        ensures failed { OnErr result (self.new ≡ failed_write self.old) }
+        ensures told { WritesMemory self.old piece.now result self.new }
 
         // What every sink promises.
         ensures bound { WritesAtMost result piece.now }

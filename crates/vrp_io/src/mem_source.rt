@@ -1,8 +1,8 @@
-ghost use Rattle.std.specs.Prelude.{◌≡◌, ◌↔◌, ◌<◌, min, length, take, Some, IfOk, OnErr, IsErr};
+ghost use Rattle.std.specs.Prelude.{◌≡◌, ◌<◌, min, length, take, Some, IfOk};
 ghost use Rattle.std.specs.Io.{ReadsAtMost};
 ghost use Rattle.std.specs.Io.KnownBytes.{ReadConsumes};
 ghost use Rattle.vrp_io.specs.Counts.{next_count, HasCause};
-ghost use Rattle.vrp_io.specs.Memory.{new_source, ReadFails, failed_read, GivesBytes};
+ghost use Rattle.vrp_io.specs.Memory.{new_source, ReadsMemory};
 
 use crate::fault::Failed;
 use crate::numbers::is_failing;
@@ -82,9 +82,7 @@ impl Source for MemSource {
     ghost calls = { λ s. s.calls };
 
     fn read(&mut self, buf: &mut [u8]) -> Result<usize, Failed>
-        ensures fails { IsErr result ↔ ReadFails self.old }
-        ensures gives { IfOk result (λ n. GivesBytes self.old self.new buf.new n) }
-        ensures failed { OnErr result (self.new ≡ failed_read self.old) }
+        ensures exact { ReadsMemory self.old self.new buf.new result }
 
         // What every source promises.
         ensures bound { ReadsAtMost result buf.new }

@@ -1,6 +1,7 @@
-ghost use Rattle.std.specs.Prelude.{◌≡◌, ◌<◌, ℕ, List, Option, length, IfOk};
+ghost use Rattle.std.specs.Prelude.{◌≡◌, ◌<◌, ℕ, List, Option, length, IfOk, Result, ⊤};
 ghost use Rattle.std.specs.Io.{WritesAtMost};
 ghost use Rattle.std.specs.Io.KnownBytes.{WriteAppends};
+ghost use Rattle.vrp_io.specs.declared.fault.Failed.{Failed};
 ghost use Rattle.vrp_io.specs.Counts.{next_count, HasCause};
 
 use crate::fault::Failed;
@@ -13,6 +14,9 @@ pub trait Sink {
     ghost faults: { Self → ℕ };
     /// How many writes were made.
     ghost calls: { Self → ℕ };
+    /// What a write did, as far as the sink tells: the sink before, the piece, the answer, the
+    /// sink after.
+    ghost wrote: { Self → List ℕ → Result ℕ Failed → Self → Type 0 } = { λ _ _ _ _. ⊤ };
 
     /// Appends the first bytes of a piece, at least one of a piece that is not empty. A write that
     /// fails appends none.
@@ -21,5 +25,6 @@ pub trait Sink {
         ensures some { IfOk result (λ n. 0 < length piece.now → 0 < n) }
         ensures bytes { WriteAppends (written self.old) (written self.new) result piece.now }
         ensures cause { HasCause (faults self.old) (faults self.new) result }
-        ensures counted { calls self.new ≡ next_count (calls self.old) };
+        ensures counted { calls self.new ≡ next_count (calls self.old) }
+        ensures told { wrote self.old piece.now result self.new };
 }

@@ -1,6 +1,7 @@
-ghost use Rattle.std.specs.Prelude.{◌≡◌, ◌+◌, ◌≤◌, length, OnOk};
+ghost use Rattle.std.specs.Prelude.{◌≡◌, ◌+◌, ◌≤◌, [], length, OnOk, MatchResult};
 ghost use Rattle.std.specs.Io.KnownBytes.{Appends};
 ghost use Rattle.vrp_io.specs.Counts.{Rose};
+ghost use Rattle.vrp_io.specs.Handed.{Handed, HandedUntilFault};
 ghost use Rattle.vrp_io.specs.Bytes.{AppendedPrefix};
 
 use crate::fault::WriteFault;
@@ -17,6 +18,9 @@ pub fn write_all<K: Sink>(sink: &mut K, bytes: &[u8]) -> Result<(), WriteFault>
     ensures kept { OnOk result (K.faults sink.new ≡ K.faults sink.old) }
     ensures later { K.faults sink.old ≤ K.faults sink.new }
 
+    // Each write is handed all that is left, up to the end or the fault.
+    ensures handed { MatchResult result (λ _. Handed K.wrote sink.old bytes.now sink.new [])
+        (λ _. HandedUntilFault K.wrote sink.old bytes.now sink.new) }
     ensures writes { K.calls sink.new ≤ K.calls sink.old + length bytes.now }
 {
     let mut rest = bytes;
