@@ -1,8 +1,8 @@
 -- Worked rows of the definitions. A false row is refused.
-use Rattle.std.proofs.Common.{◌≡◌, ◌-◌, ◌^◌, ℕ, List, [], ◌∷◌, Some, refl, lit<, lit≤, inr}
+use Rattle.std.proofs.Common.{◌≡◌, ◌-◌, ◌^◌, [], ◌∷◌, Some, refl, lit<, lit≤, inr}
 use Rattle.vrp_io.specs.Bytes.{TookAll, TookExactly}
 use Rattle.vrp_io.specs.Counts.{next_count, Rose}
-use Rattle.vrp_io.specs.Memory.{SourceParts, SinkParts, new_source, new_sink, ReadFails, WriteFails, GivesBytes, TakesBytes}
+use Rattle.vrp_io.specs.Memory.{new_source, new_sink, ReadFails, WriteFails, GivesBytes, TakesBytes}
 
 -- a count rises by one
 pub three_after_two : next_count 2 ≡ 3

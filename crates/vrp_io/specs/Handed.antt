@@ -1,5 +1,5 @@
 -- Runs of writes, each of which is handed all the bytes that are left.
-use Rattle.std.specs.Prelude.{ℕ, ◌<◌, List, [], length, drop, Result, Ok, Err, MatchResult}
+use Rattle.std.specs.Prelude.{ℕ, ◌<◌, List, length, drop, Result, Ok, Err}
 
 -- from a sink and the bytes for it, some writes lead to this sink and these bytes left
 pub data Handed {S E : Type 0} (wrote : S → List ℕ → Result ℕ E → S → Type 0) (start : S) (bytes : List ℕ) : S → List ℕ → Type 0 where

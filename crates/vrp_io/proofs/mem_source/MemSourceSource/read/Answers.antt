@@ -1,4 +1,4 @@
-use Rattle.std.proofs.Common.{◌≡◌, ◌∙◌, List, ℕ, sym, ap, arith, rules}
+use Rattle.std.proofs.Common.{◌∙◌, sym, ap, arith}
 use Rattle.vrp_io.specs.Memory.{SourceParts}
 use Rattle.vrp_io.proofs.Parts.{drop-split, drop_at_end}
 use Rattle.vrp_io.proofs.mem_source.MemSourceSource.read.Goals as goal
