@@ -1,3 +1,4 @@
 pub mod Lines
 pub mod ModelText
 pub mod SmallForm
+pub mod Kinds

@@ -1,3 +1,6 @@
+ghost use Rattle.std.specs.Prelude.{◌≡◌};
+ghost use Rattle.model_text.specs.Kinds.{kind_number, kind_name};
+
 /// The kinds of faults of a text, with their numbers.
 #[derive(Clone, Copy, Debug, PartialEq, Eq)]
 pub enum Kind {
@@ -19,6 +22,40 @@ pub enum Kind {
     Byte = 16,
     /// The text is not of the form that is read so far.
     Unbuilt = 17,
+}
+
+impl Kind {
+    /// The number of the kind.
+    pub fn number(self) -> u8
+        ensures { result ≡ kind_number self }
+    {
+        self as u8
+    }
+
+    /// The name of the kind.
+    pub fn name(self) -> &'static str
+        ensures { result.now ≡ kind_name self }
+    {
+        match self {
+            Kind::Version => "Version",
+            Kind::Word => "Word",
+            Kind::Number => "Number",
+            Kind::Range => "Range",
+            Kind::Order => "Order",
+            Kind::Unknown => "Unknown",
+            Kind::EndMissing => "EndMissing",
+            Kind::AfterEnd => "AfterEnd",
+            Kind::Ends => "Ends",
+            Kind::Window => "Window",
+            Kind::MainNegative => "MainNegative",
+            Kind::FreeCycle => "FreeCycle",
+            Kind::Box => "Box",
+            Kind::CostRange => "CostRange",
+            Kind::TooMany => "TooMany",
+            Kind::Byte => "Byte",
+            Kind::Unbuilt => "Unbuilt",
+        }
+    }
 }
 
 /// The first fault of a text: its line, counted from 1, and its kind.

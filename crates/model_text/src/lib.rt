@@ -2,5 +2,8 @@
 #![tactic(auto)]
 
 mod kind;
+mod print;
+mod writer;
 
 pub use kind::{Kind, ReadError, TextFault};
+pub use writer::LineWriter;
