@@ -2,3 +2,4 @@ pub mod Lines
 pub mod ModelText
 pub mod SmallForm
 pub mod Kinds
+pub mod Guess

@@ -1,8 +1,10 @@
 //! Texts of models and plans: reading, printing, and the kinds of faults.
 #![tactic(auto)]
 
+mod guess;
 mod kind;
 mod print;
+mod reading;
 mod writer;
 
 pub use kind::{Kind, ReadError, TextFault};
