@@ -3,14 +3,11 @@ use Rattle.std.specs.Prelude.{◌≡◌, ℕ, ◌+◌, ◌*◌, ◌^◌, ◌<◌
 use Rattle.std.specs.List.Sorted.{IsStrictlyIncreasing}
 use Rattle.path_graph.specs.declared.parts.Vertex.{Vertex}
 use Rattle.path_graph.specs.Walk.{GraphParts, IsGraph}
+use Rattle.path_graph.specs.Within.{IsWithin}
 use Rattle.route_model.specs.declared.parts.Var.{Var}
 use Rattle.route_model.specs.declared.parts.RowTerm.{RowTerm}
 use Rattle.route_model.specs.declared.parts.Row.{Row}
 use Rattle.route_model.specs.Parts.{ModelParts, graph_in, maps_in}
-
--- z is within n of 0
-abbrev pub IsWithin : ℕ → ℤ → Type 0
-IsWithin n z = ((neg_ℤ (pos n)) ≤ℤ z) × (z ≤ℤ (pos n))
 
 -- a box within 0..1,000,000 and a cost within 1,000,000,000 of 0
 pub record VarFits (v : Var) : Type 0 where
@@ -70,9 +67,12 @@ pub record ModelFits (m : ModelParts) : Type 0 where
   pub maps : length m.maps ≡ length m.graphs
   pub each_maps : EachIndex m.graphs (λ g. GraphMapsFit (length m.vars) (graph_in m.graphs g) (maps_in m.maps g))
 
--- the sum of absolute cost × high over the variables
+-- the absolute cost × high of a variable, and the sum over the variables
+abbrev pub cost_range_of : Var → ℕ
+cost_range_of v = unsigned_abs v.cost * unsigned_abs v.high
+
 abbrev pub cost_range : List Var → ℕ
-cost_range vars = sum_by (λ v. unsigned_abs v.cost * unsigned_abs v.high) vars
+cost_range vars = sum_by cost_range_of vars
 
 -- a model: its parts fit, and its costs are in range
 pub record IsModel (m : ModelParts) : Type 0 where

@@ -30,7 +30,7 @@ IsBetween low high x = IfSome low (λ l. l ≤ℤ x) × IfSome high (λ h. x ≤
 
 -- the sum of a row lies within its sides
 abbrev pub RowHolds : ModelParts → List Taken → ℕ → Type 0
-RowHolds m plan i = IsBetween (row_at m.rows i).low (row_at m.rows i).high (row_sum m plan (row_at m.rows i))
+RowHolds m plan i = IsBetween (row_at m.rows i).low (row_at m.rows i).high (row_sum m plan (row_at m.rows i).terms)
 
 pub record IsSolution (m : ModelParts) (plan : List Taken) : Type 0 where
   pub paths : EachBelow (length plan) (λ i. IsPath m (taken_at plan i))

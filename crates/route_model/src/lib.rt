@@ -3,6 +3,9 @@
 
 mod parts;
 mod plan;
+mod quantities;
+mod solution;
 
 pub use parts::{BuildFault, Model, Row, RowTerm, Var};
 pub use plan::{Plan, Taken, Verdict};
+pub use solution::judge;
