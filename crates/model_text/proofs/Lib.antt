@@ -1,1 +1,6 @@
 pub mod LineLemmas
+pub mod NumeralLemmas
+pub mod ReadingLemmas
+pub mod PartLemmas
+pub mod GraphLemmas
+pub mod TextLemmas
