@@ -4,3 +4,5 @@ pub mod ReadingLemmas
 pub mod PartLemmas
 pub mod GraphLemmas
 pub mod TextLemmas
+pub mod SmallLemmas
+pub mod SpellsLemmas

@@ -98,6 +98,6 @@ pub row_after : (count : ℕ) → count ≤ 30000 → (g : Guess) (row : Row) �
 row_after count few g row fits =
     line_after g (codes "row") 119 (side_word row.low ∷ side_word row.high ∷ flat_map term_words row.terms)
     (row.low ∷ row.high ∷ term_values row.terms) refl
-    (side_reads row.low fits.low, (side_reads row.high fits.high, terms_read count row.terms few fits.terms))
+    (side_reads row.low fits.sides.low_side, (side_reads row.high fits.sides.high_side, terms_read count row.terms few fits.each))
     ∙ ap (λ ts. line_begun (put_rows g (record { low = row.low; high = row.high; terms = ts } ∷ [])))
-    (terms_back count row.terms few fits.terms)
+    (terms_back count row.terms few fits.each)

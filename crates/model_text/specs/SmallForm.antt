@@ -4,6 +4,9 @@ use Rattle.path_graph.specs.Walk.{GraphParts}
 use Rattle.path_graph.specs.Within.{ConsumesBeforeSink}
 use Rattle.route_model.specs.Parts.{ModelParts, graph_at}
 use Rattle.route_model.specs.Fit.{IsModel}
+use Rattle.model_text.specs.declared.kind.Kind.TheVariants.{Unbuilt}
+use Rattle.model_text.specs.declared.kind.ReadError.{ReadError}
+use Rattle.model_text.specs.declared.kind.ReadError.TheVariants.{Text, Memory}
 use Rattle.model_text.specs.ModelText.{model_text}
 
 -- each vertex has a window and each arc a need at each of the six positions, as their types say
@@ -29,3 +32,8 @@ pub record Spells (bytes : List ℕ) (m : ModelParts) : Type 0 where
 
 abbrev pub SpellsNothing : List ℕ → Type 0
 SpellsNothing bytes = (m : ModelParts) → Spells bytes m → ⊥
+
+-- a fault of a text is Unbuilt in line 1, and then Q holds; want of memory says nothing
+abbrev pub IsUnbuiltWhere : Type 0 → ReadError → Type 0
+IsUnbuiltWhere Q Memory = Unit {0}
+IsUnbuiltWhere Q (Text fault) = (fault ≡ record { line = 1; kind = Unbuilt }) × Q

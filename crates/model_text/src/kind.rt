@@ -1,6 +1,8 @@
 ghost use Rattle.std.specs.Prelude.{◌≡◌};
 ghost use Rattle.model_text.specs.Kinds.{kind_number, kind_name};
 
+use path_graph::NoMemory;
+
 /// The kinds of faults of a text, with their numbers.
 #[derive(Clone, Copy, Debug, PartialEq, Eq)]
 pub enum Kind {
@@ -70,4 +72,14 @@ pub struct TextFault {
 pub enum ReadError {
     Text(TextFault),
     Memory,
+}
+
+impl From<NoMemory> for ReadError {
+    ghost use Rattle.model_text.specs.declared.kind.ReadError.TheVariants.{Memory};
+
+    ghost from_gives = { λ _ e. e ≡ Memory };
+
+    fn from(_error: NoMemory) -> ReadError {
+        ReadError::Memory
+    }
 }

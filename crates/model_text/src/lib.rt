@@ -4,8 +4,10 @@
 mod guess;
 mod kind;
 mod print;
+mod read;
 mod reading;
 mod writer;
 
 pub use kind::{Kind, ReadError, TextFault};
+pub use read::read_model;
 pub use writer::LineWriter;
