@@ -1,5 +1,5 @@
 -- The limits and orders that a model keeps.
-use Rattle.std.specs.Prelude.{◌≡◌, ℕ, ◌+◌, ◌*◌, ◌^◌, ◌<◌, ◌≤◌, ℤ, pos, neg_ℤ, ◌≤ℤ◌, List, length, sum_by, All, Option, IfSome, if◌then◌else◌, ◌==◌, unsigned_abs, EachIndex}
+use Rattle.std.specs.Prelude.{◌≡◌, ℕ, ◌*◌, ◌^◌, ◌<◌, ◌≤◌, ℤ, pos, ◌≤ℤ◌, List, length, sum_by, All, Option, IfSome, if◌then◌else◌, ◌==◌, unsigned_abs, EachIndex}
 use Rattle.std.specs.List.{AllAdjacentBelow}
 use Rattle.path_graph.specs.declared.parts.Vertex.{Vertex}
 use Rattle.path_graph.specs.Walk.{GraphParts, IsGraph}

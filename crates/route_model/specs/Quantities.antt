@@ -1,5 +1,5 @@
 -- What a plan uses: sums over its paths, counts included.
-use Rattle.std.specs.Prelude.{◌≡◌, ℕ, ◌*◌, ℤ, pos, ◌*ℤ◌, List, length, Bool, nat_lt, ◌&&◌, ◌==◌, if◌then◌else◌, sum_by, count_by, Option, IfSome, option_map, unwrap_or, false}
+use Rattle.std.specs.Prelude.{ℕ, ◌*◌, ℤ, pos, ◌*ℤ◌, List, length, Bool, nat_lt, ◌&&◌, ◌==◌, if◌then◌else◌, sum_by, count_by, option_map, unwrap_or, false}
 use Rattle.std.specs.List.{list_any}
 use Rattle.path_graph.specs.Sums.{sum_below}
 use Rattle.path_graph.specs.Fit.{vertex_at}

@@ -1,5 +1,5 @@
 -- Plans that are solutions of a model, least ones, and models that have none.
-use Rattle.std.specs.Prelude.{◌≡◌, ℕ, ◌<◌, ◌≤◌, ℤ, pos, ◌≤ℤ◌, List, length, Option, IfSome}
+use Rattle.std.specs.Prelude.{ℕ, ◌<◌, ◌≤◌, ℤ, pos, ◌≤ℤ◌, List, length, Option, IfSome}
 use Rattle.path_graph.specs.Walk.{GraphParts, IsFeasibleWalk}
 use Rattle.route_model.specs.declared.plan.Taken.{Taken}
 use Rattle.route_model.specs.First.{EachBelow}

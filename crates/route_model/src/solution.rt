@@ -1,5 +1,4 @@
-ghost use Rattle.std.specs.Prelude.{◌≡◌, ◌↔◌, IsTrue, ℕ, ◌+◌, ◌*◌, ◌<◌, ◌≤◌, ◌^◌, length, MatchOption, All, List, pos, ◌*ℤ◌, ◌+ℤ◌, ◌≤ℤ◌, FitsSigned, unsigned_abs};
-ghost use Rattle.std.specs.Int.{w64};
+ghost use Rattle.std.specs.Prelude.{◌≡◌, ◌↔◌, IsTrue, ℕ, ◌+◌, ◌*◌, ◌<◌, ◌≤◌, ◌^◌, length, MatchOption, All, List, pos, ◌*ℤ◌, ◌+ℤ◌, ◌≤ℤ◌};
 ghost use Rattle.path_graph.specs.Sums.{sum_below};
 ghost use Rattle.path_graph.specs.Within.{IsWithin};
 ghost use Rattle.route_model.specs.First.{EachBelow, IsFirstFault};
@@ -9,6 +8,7 @@ ghost use Rattle.route_model.specs.Quantities.{paths_of, visits_of, value_of, ro
 ghost use Rattle.route_model.specs.Solution.{IsPath, CountFits, SetFits, InBox, IsBetween, RowHolds};
 ghost use Rattle.route_model.specs.Verdicts.{IsCounted, IsVerdict};
 
+use crate::arithmetic::{added, product, small};
 use crate::parts::{Model, Row, RowTerm, Var};
 use crate::plan::{Plan, Taken, Verdict};
 use crate::quantities::{path_count, set_visits, value};
@@ -242,31 +242,6 @@ fn boxed_value(model: &Model, paths: &[Taken], var: u32) -> i64
 {
     let _fits = var_of(model, var);
     small(value(model, paths, var))
-}
-
-/// A small number as a signed one.
-fn small(total: u128) -> i64
-    requires { total ≤ 1000000 }
-    ensures { result ≡ pos total }
-{
-    total as i64
-}
-
-/// A product of a cost or coefficient and a value.
-fn product(factor: i64, value: i64) -> i64
-    requires factor { IsWithin 1000000000 factor }
-    requires value { IsWithin 1000000 value }
-    ensures { result ≡ factor *ℤ value }
-{
-    factor * value
-}
-
-/// A sum that fits.
-fn added(total: i64, more: i64) -> i64
-    requires { FitsSigned w64 (total +ℤ more) }
-    ensures { result ≡ total +ℤ more }
-{
-    total + more
 }
 
 /// What a plan within the box of the variables costs.

@@ -1,4 +1,4 @@
-use Rattle.std.proofs.Common.{ℕ, ◌≡◌, ◌<◌, ◌≤◌, ◌+◌, ◌-◌, ◌*◌, ◌^◌, min, length, take, slice_index_or}
+use Rattle.std.proofs.Common.{ℕ, ◌<◌}
 use Rattle.path_graph.specs.Fit.{vertex_at}
 use Rattle.route_model.specs.Fit.{IsDeclared}
 use Rattle.route_model.proofs.fit.graph_fits.Given as goal

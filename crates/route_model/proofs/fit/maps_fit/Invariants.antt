@@ -1,4 +1,4 @@
-use Rattle.std.proofs.Common.{ℕ, ◌≡◌, ◌<◌, ◌≤◌, ◌+◌, ◌-◌, ◌*◌, ◌^◌, min, length, take, slice_index_or}
+use Rattle.std.proofs.Common.{ℕ, ◌<◌}
 use Rattle.route_model.specs.Fit.{GraphMapsFit}
 use Rattle.route_model.specs.Parts.{graph_in, maps_in}
 use Rattle.route_model.proofs.fit.maps_fit.Given as goal

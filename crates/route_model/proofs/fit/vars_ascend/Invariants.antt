@@ -1,4 +1,4 @@
-use Rattle.std.proofs.Common.{ℕ, ◌≡◌, ◌<◌, ◌≤◌, ◌+◌, ◌-◌, ◌*◌, ◌^◌, min, length, take, slice_index_or}
+use Rattle.std.proofs.Common.{ℕ, ◌<◌, ◌+◌, length, slice_index_or}
 use Rattle.route_model.proofs.fit.vars_ascend.Given as goal
 
 abbrev pub invariant-loop-place : goal.invariant-loop-place

@@ -1,4 +1,4 @@
-use Rattle.std.proofs.Common.{below_more, arith, refl, sym, ap}
+use Rattle.std.proofs.Common.{below_more, refl}
 use Rattle.route_model.proofs.solution.first_bad_var.Goals as goal
 
 pub loop-var-preserved : goal.loop-var-preserved

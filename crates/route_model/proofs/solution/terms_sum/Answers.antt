@@ -1,4 +1,4 @@
-use Rattle.std.proofs.Common.{arith, slice_index_or, pos, ◌*ℤ◌}
+use Rattle.std.proofs.Common.{arith, pos, ◌*ℤ◌}
 use Rattle.std.specs.Int.{w64}
 use Rattle.path_graph.proofs.SumLemmas.{signed_loop_step}
 use Rattle.route_model.specs.Parts.{term_at}

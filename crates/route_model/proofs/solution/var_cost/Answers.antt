@@ -1,4 +1,4 @@
-use Rattle.std.proofs.Common.{◌≡◌, arith, rules, subst, sym, ◌∙◌, ap, ℤ, pos, ◌*ℤ◌, FitsSigned, w64}
+use Rattle.std.proofs.Common.{rules, subst, sym, ◌∙◌, ap, ℤ, ◌*ℤ◌, FitsSigned, w64}
 use Rattle.path_graph.specs.Within.{IsWithin}
 use Rattle.path_graph.proofs.SumLemmas.{product_told}
 use Rattle.route_model.specs.declared.parts.Var.{Var}

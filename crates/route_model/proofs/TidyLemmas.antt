@@ -1,0 +1,119 @@
+-- Lemmas on tidy plans.
+use Rattle.std.proofs.Common.{◌≡◌, ℕ, ◌+◌, ◌-◌, ◌*◌, ◌≤◌, ◌<◌, inl, inr, List, [], ◌∷◌, length, take, get_or, arith, sym, ◌∙◌, ap, subst, refl, zero, suc, add-mul, mul-one, Result, Ok, Err}
+use Rattle.std.specs.List.{insert}
+use Rattle.std.specs.declared.cmp.Ordering.{Ordering}
+use Rattle.std.specs.declared.cmp.Ordering.TheVariants.{Less, Equal, Greater}
+use Rattle.std.specs.Ordering.{nat_cmp, ordering_then, ordering_reverse, is_lt}
+use Rattle.std.specs.List.Sorted.{IsSortedBy, IsBinarySearchResult, IsSearchInRange}
+use Rattle.std.proofs.lemmas.Map.Lookups.{exact_unsigned, exact_bytes}
+use Rattle.std.specs.Cmp.{IsTotalOrder}
+use Rattle.std.specs.Cmp.Lexicographic.{slice_cmp}
+use Rattle.std.proofs.Math.ListN.{set}
+use Rattle.std.proofs.lemmas.List.{get_or_default}
+use Rattle.std.proofs.lemmas.List.Edits.{length-insert, get_or-insert_below, get_or-insert_at, get_or-insert_above}
+use Rattle.std.proofs.lemmas.List.Sorted.{IsPermutation-insert, sum_by-IsPermutation, searchable_from_sorted}
+use Rattle.std.proofs.lemmas.List.Sums.{sum_by-cons, sum_by-set, sum_by_more_le}
+use Rattle.std.proofs.lemmas.Bool.{cases_lt}
+use Rattle.std.proofs.lemmas.Bool.Decides.{nat_tests}
+use Rattle.std.proofs.lemmas.Cmp.{nat_cmp_total, nat_list_cmp_total, on_total, then_total}
+use Rattle.route_model.specs.declared.plan.Taken.{Taken}
+use Rattle.route_model.specs.Parts.{taken_at}
+use Rattle.route_model.specs.Quantities.{is_of, paths_of}
+use Rattle.route_model.specs.Tidy.{walk_order, IsTidy, AddsPath, IsPlaceOf, AreFew}
+
+pub walk_order_total : IsTotalOrder walk_order
+walk_order_total = then_total (on_total (λ (t : Taken). t.graph) nat_cmp_total) (on_total (λ (t : Taken). t.arcs) nat_list_cmp_total)
+
+abbrev none : Taken
+none = record { graph = 0; count = 0; arcs = [] }
+
+order_of : (a b c d : Taken) → a ≡ c → b ≡ d → walk_order c d ≡ Less → walk_order a b ≡ Less
+order_of a b c d p q h = subst (λ (x : Taken). walk_order x b ≡ Less) (sym p) (subst (λ (y : Taken). walk_order c y ≡ Less) (sym q) h)
+
+-- what comes after a walk is after it the other way round too
+reversed : (a b : Taken) → walk_order a b ≡ Greater → walk_order b a ≡ Less
+reversed a b h = walk_order_total.antisymm b a ∙ ap ordering_reverse h
+
+-- an insert before what comes later and after what comes before
+pub tidy-insert : (plan : List Taken) (i : ℕ) (t : Taken) → IsTidy plan → i ≤ length plan → ((k : ℕ) → k < i → walk_order (taken_at plan k) t ≡ Less) → ((k : ℕ) → i ≤ k → k < length plan → walk_order (taken_at plan k) t ≡ Greater) → IsTidy (insert plan i t)
+tidy-insert plan i t tidy within before later k below =
+    let long = length-insert plan i t within in
+    elim (cases_lt (k + 1) i) [
+      | inl front ↦ order_of _ _ (taken_at plan k) (taken_at plan (k + 1)) (get_or-insert_below plan i t none k (omega arith) within) (get_or-insert_below plan i t none (k + 1) front within) (tidy k (omega arith))
+      | inr rest ↦ elim (cases_lt k i) [
+        | inl at_front ↦ let here : k + 1 ≡ i = omega arith in
+            order_of _ _ (taken_at plan k) t (get_or-insert_below plan i t none k at_front within) (ap (λ (n : ℕ). taken_at (insert plan i t) n) here ∙ get_or-insert_at plan i t none within) (before k at_front)
+        | inr behind ↦ behind_at (k - i) (omega arith)
+      ]
+    ]
+  where
+    behind_at : (n : ℕ) → k ≡ i + n → walk_order (taken_at (insert plan i t) k) (taken_at (insert plan i t) (k + 1)) ≡ Less
+    behind_at zero e =
+        let long = length-insert plan i t within in
+        let here : k ≡ i = omega arith in
+        order_of _ _ t (taken_at plan k) (ap (λ (n : ℕ). taken_at (insert plan i t) n) here ∙ get_or-insert_at plan i t none within) (get_or-insert_above plan i t none k (omega arith) within) (reversed (taken_at plan k) t (later k (omega arith) (omega (arith, long))))
+    behind_at (suc n) e =
+        let long = length-insert plan i t within in
+        let here : k ≡ (i + n) + 1 = omega arith in
+        order_of _ _ (taken_at plan (i + n)) (taken_at plan k) (ap (λ (m : ℕ). taken_at (insert plan i t) m) here ∙ get_or-insert_above plan i t none (i + n) (omega arith) within) (get_or-insert_above plan i t none k (omega arith) within)
+        (subst (λ (m : ℕ). walk_order (taken_at plan (i + n)) (taken_at plan m) ≡ Less) (sym here) (tidy (i + n) (omega (arith, long))))
+
+pub quantity-insert : (plan : List Taken) (i : ℕ) (t : Taken) → AddsPath plan (insert plan i t) t
+quantity-insert plan i t of_walk =
+    let f : Taken → ℕ = λ u. u.count * of_walk u.graph u.arcs in
+    let same = sum_by-IsPermutation f (t ∷ plan) (insert plan i t) (IsPermutation-insert plan i t) in
+    let more = sum_by-cons f t plan in
+    omega (arith, same, more)
+
+-- equal walks
+walk_order-Equal : (a b : Taken) → walk_order a b ≡ Equal → (a.graph ≡ b.graph) × (a.arcs ≡ b.arcs)
+walk_order-Equal a b h = parts (nat_cmp a.graph b.graph) (slice_cmp nat_cmp a.arcs b.arcs) (exact_unsigned a.graph b.graph) (exact_bytes a.arcs b.arcs) h
+  where
+    parts : (o p : Ordering) → (o ≡ Equal → a.graph ≡ b.graph) → (p ≡ Equal → a.arcs ≡ b.arcs) → ordering_then o p ≡ Equal → (a.graph ≡ b.graph) × (a.arcs ≡ b.arcs)
+    parts Less p f g e = cc
+    parts Equal p f g e = (f refl, g e)
+    parts Greater p f g e = cc
+
+-- the count of the path with the walk grows
+pub quantity-set : (plan : List Taken) (i : ℕ) (t path : Taken) → i < length plan → path ≡ get_or plan i path → walk_order (taken_at plan i) t ≡ Equal → AddsPath plan (set plan i (record { graph = path.graph; count = path.count + t.count; arcs = path.arcs })) t
+quantity-set plan i t path within is same of_walk =
+    let f : Taken → ℕ = λ u. u.count * of_walk u.graph u.arcs in
+    let there : path ≡ taken_at plan i = is ∙ get_or_default plan i path none within in
+    let equal = walk_order-Equal path t (ap (λ (u : Taken). walk_order u t) there ∙ same) in
+    let walk : of_walk path.graph path.arcs ≡ of_walk t.graph t.arcs = ap (λ (n : ℕ). of_walk n path.arcs) equal.0 ∙ ap (of_walk t.graph) equal.1 in
+    let sums = sum_by-set f plan i (record { graph = path.graph; count = path.count + t.count; arcs = path.arcs }) path within in
+    let old = ap f is in
+    regroup _ _ path.count t.count (of_walk path.graph path.arcs) (of_walk t.graph t.arcs) (f (get_or plan i path)) walk old sums
+  where
+    regroup : (new before c n w v x : ℕ) → w ≡ v → c * w ≡ x → new + x ≡ before + (c + n) * w → new ≡ before + n * v
+    regroup new before c n w v x p q r =
+        let split : (c + n) * w ≡ c * w + n * w = add-mul c n w in
+        let same_walk : n * w ≡ n * v = ap (λ (m : ℕ). n * m) p in
+        omega (arith, split, q, r, same_walk)
+
+-- where a binary search stops
+pub place_found : (plan : List Taken) (t : Taken) (r : Result ℕ ℕ) → IsTidy plan → IsSearchInRange r (length plan) → IsBinarySearchResult (λ u. walk_order u t) plan r → IsPlaceOf plan t r
+place_found plan t (Ok i) tidy range found = (range, found none)
+place_found plan t (Err i) tidy range found =
+    let rises = searchable_from_sorted walk_order_total (λ (u : Taken). u) plan t sorted in
+    let parts = found rises in
+    (range, λ k before. parts.0 k none (omega arith) before, λ k from below. parts.1 k none from below)
+  where
+    sorted : IsSortedBy (λ (a b : Taken). is_lt (walk_order a b)) plan
+    sorted k d low below =
+        let here = get_or_default plan k d none (omega arith) in
+        let next = get_or_default plan (k + 1) d none below in
+        let back : walk_order (get_or plan (k + 1) d) (get_or plan k d) ≡ Greater =
+        walk_order_total.antisymm (get_or plan (k + 1) d) (get_or plan k d) ∙ ap ordering_reverse (order_of _ _ (taken_at plan k) (taken_at plan (k + 1)) here next (tidy k below)) in
+        ap is_lt back
+
+own_graph : (t : Taken) → is_of t.graph t.graph t.arcs ≡ 1
+own_graph t = grind (arith, nat_tests)
+
+-- the next path of a plan with few paths leaves room for its count
+pub few_more : (plan : List Taken) (i : ℕ) (t : Taken) → AreFew plan → i < length plan → t ≡ get_or plan i t → paths_of (take i plan) t.graph + t.count ≤ 4096
+few_more plan i t few below is =
+    let f : Taken → ℕ = λ u. u.count * is_of t.graph u.graph u.arcs in
+    let part = sum_by_more_le f plan i t below in
+    let here : f t ≡ t.count = ap (λ (n : ℕ). t.count * n) (own_graph t) ∙ mul-one t.count in
+    omega (arith, part, here, ap f is, few t.graph)
