@@ -1,0 +1,3 @@
+pub mod AheadLemmas
+pub mod PartialLemmas
+pub mod Results
