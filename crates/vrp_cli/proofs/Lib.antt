@@ -1,3 +1,4 @@
 pub mod AheadLemmas
 pub mod PartialLemmas
 pub mod Results
+pub mod CheckLemmas

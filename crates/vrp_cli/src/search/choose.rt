@@ -93,7 +93,11 @@ fn go_back(model: &Model, walks: &List<List<u32>>, choice: &mut Choice) -> bool 
     let Some(last) = choice.chosen.pop() else {
         return false;
     };
-    remove_walk(choice.values.as_mut_slice(), model.maps.at(0), walks.at(last).as_slice());
+    remove_walk(
+        choice.values.as_mut_slice(),
+        model.maps.at(0),
+        walks.at(last).as_slice(),
+    );
     choice.next = last + 1;
     true
 }
@@ -140,4 +144,3 @@ pub(crate) fn least_plan(alloc: Global, model: &Model) -> Result<Option<Best>, N
         plan,
     }))
 }
-
