@@ -2,3 +2,4 @@ pub mod AheadLemmas
 pub mod PartialLemmas
 pub mod Results
 pub mod CheckLemmas
+pub mod PlanLemmas

@@ -1,13 +1,14 @@
 -- Selections of walks from a list, and the search for the best one.
-use Rattle.std.specs.Prelude.{◌≡◌, ℕ, ◌+◌, ◌<◌, ◌≤◌, ℤ, ◌≤ℤ◌, List, [], ◌∷◌, length, map, All, Option, None, Some, IfSome, slice_index_or, ◌⊎◌}
+use Rattle.std.specs.Prelude.{◌≡◌, ℕ, ◌+◌, ◌<◌, ◌≤◌, ℤ, ◌≤ℤ◌, List, [], ◌∷◌, length, map, All, Option, None, Some, IfSome, slice_index, slice_index_or, ◌⊎◌}
 use Rattle.route_model.specs.declared.plan.Taken.{Taken}
-use Rattle.route_model.specs.Parts.{ModelParts, graph_at}
+use Rattle.route_model.specs.Parts.{ModelParts, graph_at, maps_in}
+use Rattle.route_model.specs.First.{EachBelow}
 use Rattle.route_model.specs.Quantities.{cost_of}
 use Rattle.route_model.specs.Solution.{IsSolution}
 use Rattle.vrp_cli.specs.declared.search.choose.Found.{Found}
 use Rattle.vrp_cli.specs.declared.search.choose.Choice.{Choice}
 use Rattle.vrp_cli.specs.Ahead.{IsAhead, work_left}
-use Rattle.vrp_cli.specs.Values.{AreValuesOf, AreNotAbove, ValuesSolve, cost_at}
+use Rattle.vrp_cli.specs.Values.{uses_by, AreValuesOf, AreNotAbove, ValuesSolve, cost_at}
 
 -- the plan of a selection takes each chosen walk once, and again where it is chosen again
 abbrev pub taken_once : List (List ℕ) → ℕ → Taken
@@ -68,3 +69,9 @@ pub record Considers (m : ModelParts) (old new : Choice) : Type 0 where
       × (new.best ≡ Some (record { cost = cost_at m.vars old.values.items; chosen = old.chosen.items })))
   pub considered : ValuesSolve m (length old.chosen.items) old.values.items → IsAtMost new.best (cost_at m.vars old.values.items)
   pub kept : (cost : ℤ) → IsAtMost old.best cost → IsAtMost new.best cost
+
+-- the new values are the old ones and what a walk uses
+pub record AddsWalk (m : ModelParts) (walks : List (List ℕ)) (i : ℕ) (old new : List ℕ) : Type 0 where
+  pub before : length old ≡ length m.vars
+  pub after : length new ≡ length m.vars
+  pub each : EachBelow (length m.vars) (λ j. slice_index new j ≡ slice_index old j + uses_by (maps_in m.maps 0) j (slice_index_or walks i []))
