@@ -3,3 +3,5 @@ pub mod PartialLemmas
 pub mod Results
 pub mod CheckLemmas
 pub mod PlanLemmas
+pub mod ChoiceLemmas
+pub mod ExchangeLemmas

@@ -1,4 +1,4 @@
-ghost use Rattle.std.specs.Prelude.{[], ◌≡◌, ◌↔◌, ◌⊎◌, IsTrue, ℕ, ◌+◌, ◌<◌, ◌≤◌, ℤ, ◌≤ℤ◌, All, List, length, IfOk, OnOk, IfSome, MatchBool, MatchOption, slice_index, slice_index_or};
+ghost use Rattle.std.specs.Prelude.{[], ◌≡◌, ◌↔◌, ◌⊎◌, IsTrue, ℕ, ◌+◌, ◌^◌, ◌<◌, ◌≤◌, ℤ, ◌≤ℤ◌, All, List, length, IfOk, OnOk, IfSome, MatchBool, MatchOption, slice_index, slice_index_or};
 ghost use Rattle.route_model.specs.First.{EachBelow};
 ghost use Rattle.route_model.specs.Parts.{graph_at, maps_in};
 ghost use Rattle.route_model.specs.Quantities.{cost_of};
@@ -150,6 +150,7 @@ fn try_next(
     requires choice { IsChoiceOf model.now walks.now choice.old }
     requires next { choice.old.next < length walks.now }
     requires room { length choice.old.chosen.items < (graph_at model.now 0).ends.high }
+    requires short { length walks.now < 2 ^ 64 }
     ensures choice { OnOk result (IsChoiceOf model.now walks.now choice.new) }
     ensures less { OnOk result
         (choice_left model.now walks.now choice.new < choice_left model.now walks.now choice.old) }
@@ -170,6 +171,7 @@ fn go_back(model: &Model, walks: &List<List<u32>>, choice: &mut Choice) -> bool
     requires form { IsSmallForm model.now }
     requires walks { IsWalkList (graph_at model.now 0) walks.now }
     requires choice { IsChoiceOf model.now walks.now choice.old }
+    requires short { length walks.now < 2 ^ 64 }
     requires end { (length walks.now ≤ choice.old.next)
         ⊎ ((graph_at model.now 0).ends.high ≤ length choice.old.chosen.items) }
     ensures { MatchBool result
