@@ -1,11 +1,11 @@
 -- Each solution has the quantities of a rising selection, so the best selection is a least solution.
-use Rattle.std.proofs.Common.{◌≡◌, ℕ, zero, suc, ◌+◌, ◌*◌, ◌<◌, ◌≤◌, ◌^◌, ◌-◌, ℤ, ◌≤ℤ◌, List, [], ◌∷◌, length, get_or, ◌⊎◌, inl, inr, arith, sym, ◌∙◌, ap, subst, refl, All, Contains, Option, Some, None, IfSome}
+use Rattle.std.proofs.Common.{◌≡◌, ℕ, zero, suc, ◌+◌, ◌*◌, ◌<◌, ◌≤◌, ◌^◌, ◌-◌, ℤ, ◌≤ℤ◌, List, [], ◌∷◌, length, get_or, ◌⊎◌, inl, inr, arith, sym, ◌∙◌, ap, subst, refl, All, Contains, Option, Some, None, IfSome, Bool, true, false, cond, eqb}
 use Rattle.std.specs.Prelude.{sum_by}
 use Rattle.std.proofs.lemmas.Bool.{cases_lt}
 use Rattle.std.proofs.lemmas.List.{get_or_default, length-map}
 use Rattle.std.proofs.lemmas.List.Sums.{sum_by-cons, sum_by-le}
 use Rattle.std.proofs.lemmas.List.Elements.{All-nil, All-cons, All-map}
-use Rattle.path_graph.specs.Walk.{GraphParts, IsFeasibleWalk}
+use Rattle.path_graph.specs.Walk.{GraphParts, IsGraph, IsFeasibleWalk}
 use Rattle.route_model.specs.declared.plan.Taken.{Taken}
 use Rattle.route_model.specs.Parts.{ModelParts, graph_at, taken_at}
 use Rattle.route_model.specs.First.{EachBelow}
@@ -136,19 +136,21 @@ best_is_least m walks best found plan form list e h p =
 pub is_counted : (m : ModelParts) (walks : List (List ℕ)) (xs : List ℕ) → IsSmallForm m → IsSelection m walks xs → IsCounted (plan_of walks xs)
 is_counted m walks xs form s =
     let len = length-map xs (taken_once walks) in
-    let most = (form.model.fits.each_graph 0 _ (omega (arith, form.one_graph))).ends_fit.most_paths in
+    let fits : IsGraph (graph_at m 0) = form.model.fits.each_graph 0 _ (omega (arith, form.one_graph)) in
+    let most = fits.ends_fit.most_paths in
     record {
       few = omega (arith, len, most, s.few);
       each = All-map (λ (t : Taken). t.count ≤ 4096) (taken_once walks) xs (λ k d l. omega arith);
     }
 
-at_most_one : (g : ℕ) (arcs : List ℕ) → is_of g 0 arcs ≤ 1
-at_most_one zero arcs = omega arith
-at_most_one (suc g) arcs = omega arith
+at_most_one : (b : Bool) → ◌≤◌ (cond b 1 0) 1
+at_most_one true = omega arith
+at_most_one false = omega arith
 
 pub are_few : (m : ModelParts) (walks : List (List ℕ)) (xs : List ℕ) → IsSmallForm m → IsSelection m walks xs → AreFew (plan_of walks xs)
 are_few m walks xs form s g =
-    let most = (form.model.fits.each_graph 0 _ (omega (arith, form.one_graph))).ends_fit.most_paths in
+    let fits : IsGraph (graph_at m 0) = form.model.fits.each_graph 0 _ (omega (arith, form.one_graph)) in
+    let most = fits.ends_fit.most_paths in
     let sums = quantity-plan_of (is_of g) walks xs in
-    let le = sum_by-le (λ (i : ℕ). is_of g 0 (get_or walks i [])) 1 xs (λ k d l. at_most_one g (get_or walks (get_or xs k d) [])) in
+    let le = sum_by-le (λ (i : ℕ). is_of g 0 (get_or walks i [])) 1 xs (λ k d l. at_most_one (eqb 0 g)) in
     omega (arith, most, sums, le, s.few)
