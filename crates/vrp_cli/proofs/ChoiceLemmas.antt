@@ -1,9 +1,11 @@
 -- Steps of the search for the best selection of walks.
-use Rattle.std.proofs.Common.{◌≡◌, ◌≢◌, ℕ, zero, suc, ◌+◌, ◌*◌, ◌<◌, ◌≤◌, ℤ, pos, ◌≤ℤ◌, List, [], ◌∷◌, ◌++◌, length, map, get_or, take, ◌⊎◌, inl, inr, arith, sym, ◌∙◌, ap, subst, refl, All, Option, Some, None, IfSome, slice_index, slice_index_or, append_assoc, replicate, Vec, Global}
+use Rattle.std.proofs.Common.{◌≡◌, ◌≢◌, ℕ, zero, suc, ◌+◌, ◌*◌, ◌<◌, ◌≤◌, ℤ, pos, ◌≤ℤ◌, List, [], ◌∷◌, ◌++◌, length, map, get_or, take, ◌⊎◌, inl, inr, arith, sym, ◌∙◌, ap, subst, refl, All, Option, Some, None, IfSome, slice_index, slice_index_or, append_assoc, replicate, Vec, Global, cond, eqb}
 use Rattle.std.proofs.lemmas.Int.{ints}
 use Rattle.std.proofs.lemmas.List.{length_push, get_or_push, take_at, get_or-append-add, length-append, length-replicate, get_or-replicate}
-use Rattle.std.proofs.lemmas.List.Elements.{All-nil, All-push, All-take}
-use Rattle.route_model.specs.declared.parts.Var.{Var}
+use Rattle.std.proofs.lemmas.List.Elements.{All-nil, All-push, All-take, All-from_get_or}
+use Rattle.std.proofs.lemmas.List.Sums.{sum_by-cons}
+use Rattle.std.proofs.lemmas.Bool.{cases_eq}
+use Rattle.std.specs.Prelude.{count_by}
 use Rattle.route_model.specs.Fit.{VarFits}
 use Rattle.route_model.specs.Parts.{ModelParts, var_at, graph_at, maps_in}
 use Rattle.route_model.specs.First.{EachBelow}
@@ -14,10 +16,10 @@ use Rattle.vrp_cli.specs.declared.search.choose.Found.{Found}
 use Rattle.vrp_cli.specs.declared.search.choose.Choice.{Choice}
 use Rattle.vrp_cli.specs.Ahead.{IsAhead, work_left}
 use Rattle.vrp_cli.specs.Partial.{IsWalkList}
-use Rattle.vrp_cli.specs.Values.{uses_by, AreValuesOf, AreNotAbove, ValuesSolve, cost_at}
+use Rattle.vrp_cli.specs.Values.{uses_by, AreValuesOf, IsNotAbove, AreNotAbove, UsedAreNotAbove, ValuesSolve, cost_at}
 use Rattle.vrp_cli.specs.Selection.{plan_of, IsSelection, IsRisingFrom, IsFound, IsAtMost, IsChoice, IsChoiceOf, choice_left, IsBest, Considers, AddsWalk}
 use Rattle.vrp_cli.proofs.AheadLemmas.{GoesBy, GoesOver, ahead_next, ahead_deeper, ahead_longer, ahead_back, left_skips, left_deeper, left_back}
-use Rattle.vrp_cli.proofs.PlanLemmas.{quantity_more, value_of-push, solves, passes_if_solves, cost_at-same}
+use Rattle.vrp_cli.proofs.PlanLemmas.{quantity_more, other_counts, are_maps, walk_has_maps, value_of-push, solves, passes_if_solves, cost_at-same}
 
 -- values with a walk more, and with one less
 pub values_push : (m : ModelParts) (walks : List (List ℕ)) (xs : List ℕ) (i : ℕ) (old new : List ℕ) → IsSmallForm m → AreValuesOf m (plan_of walks xs) old → AddsWalk m walks i old new → AreValuesOf m (plan_of walks (xs ++ i ∷ [])) new
@@ -264,5 +266,46 @@ taken_back m walks old new last form h end p q r b =
           (subst (λ (xs : List ℕ). work_left n depth new.chosen.items (last + 1) < work_left n depth xs old.next) (sym p) less),
     )
 
-pub same_boxes : (vars others : List Var) (values more : List ℕ) → vars ≡ others → values ≡ more → AreNotAbove vars values → AreNotAbove others more
-same_boxes vars others values more p q h = subst (λ (vs : List ℕ). AreNotAbove others vs) q (subst (λ (xs : List Var). AreNotAbove xs values) p h)
+-- of the variables that arcs use, what holds of each holds of j, unless no arc uses j
+used_by_arc : (P : ℕ → Type 0) (j : ℕ) (vars : List ℕ) → ((k : ℕ) → k < length vars → P (slice_index vars k)) → (count_by (λ i. eqb i j) vars ≡ 0) ⊎ P j
+used_by_arc P j [] h = inl refl
+used_by_arc P j (x ∷ vars) h =
+    let step = sum_by-cons (λ (i : ℕ). cond (eqb i j) 1 0) x vars in
+    elim (cases_eq x j) [
+      | inl e ↦ inr (subst P e (h 0 (omega arith)))
+      | inr n ↦ elim (used_by_arc P j vars (λ k l. h (suc k) (omega arith))) [
+        | inl z ↦ let here = other_counts x j n in inl (omega (arith, step, here, z))
+        | inr p ↦ inr p
+      ]
+    ]
+
+used_by_arcs : (P : ℕ → Type 0) (maps : List (List ℕ)) (j : ℕ) (arcs : List ℕ) → ((i : ℕ) → i < length arcs → (k : ℕ) → k < length (get_or maps (slice_index arcs i) []) → P (slice_index (get_or maps (slice_index arcs i) []) k)) → (uses_by maps j arcs ≡ 0) ⊎ P j
+used_by_arcs P maps j [] h = inl refl
+used_by_arcs P maps j (a ∷ arcs) h =
+    let step = sum_by-cons (λ (b : ℕ). count_by (λ i. eqb i j) (get_or maps b [])) a arcs in
+    elim (used_by_arc P j (get_or maps a []) (h 0 (omega arith))) [
+      | inr p ↦ inr p
+      | inl here ↦ elim (used_by_arcs P maps j arcs (λ i l. h (suc i) (omega arith))) [
+        | inl z ↦ inl (omega (arith, step, here, z))
+        | inr p ↦ inr p
+      ]
+    ]
+
+-- with a walk more no variable is above its box, if none is that the walk uses
+pub all_fit : (m : ModelParts) (walks : List (List ℕ)) (i : ℕ) (old new : List ℕ) → AreNotAbove m.vars old → AddsWalk m walks i old new → UsedAreNotAbove m.vars new (maps_in m.maps 0) (get_or walks i []) → AreNotAbove m.vars new
+all_fit m walks i old new h a fits j l =
+    let high = h j l in
+    let more = a.each j l in
+    elim (used_by_arcs (IsNotAbove m.vars new) (maps_in m.maps 0) j (get_or walks i []) fits) [
+      | inl z ↦ omega (arith, ints, high, more, z)
+      | inr p ↦ p
+    ]
+
+pub used_fit : (m : ModelParts) (walks : List (List ℕ)) (i : ℕ) (values : List ℕ) → IsSmallForm m → IsWalkList (graph_at m 0) walks → i < length walks → AreNotAbove m.vars values → UsedAreNotAbove m.vars values (maps_in m.maps 0) (get_or walks i [])
+used_fit m walks i values form list l h k b n q =
+    let a = slice_index (get_or walks i []) k in
+    let vars = are_maps m form a [] (walk_has_maps m walks i form list l k 0 b) in
+    h (slice_index (get_or (maps_in m.maps 0) a []) n) (vars n 0 q)
+
+pub all_small : (m : ModelParts) (values : List ℕ) → IsSmallForm m → length values ≡ length m.vars → AreNotAbove m.vars values → All (λ v. v ≤ 1000000) values
+all_small m values form e h = All-from_get_or (λ v. v ≤ 1000000) values 0 (λ j l. value_small m values j form h (omega arith))

@@ -61,7 +61,7 @@ strict_from : (x : ℕ) (ys : List ℕ) → IsStrictlyIncreasing (x ∷ ys) → 
 strict_from x [] h = tt
 strict_from x (y ∷ ys) h = (h 0 (omega arith), strict_from y ys (strict_rest x (y ∷ ys) h))
 
-other_counts : (y j : ℕ) → y ≢ j → ◌≡◌ {A = ℕ} (cond (eqb y j) 1 0) 0
+pub other_counts : (y j : ℕ) → y ≢ j → ◌≡◌ {A = ℕ} (cond (eqb y j) 1 0) 0
 other_counts y j n = grind (arith, nat_tests)
 
 count_none : (j x : ℕ) (ys : List ℕ) → StrictFrom x ys → j ≤ x → count_by (λ i. eqb i j) ys ≡ 0

@@ -1,5 +1,5 @@
 -- The values of the variables as a list, and what holds of them.
-use Rattle.std.specs.Prelude.{◌≡◌, ℕ, ◌<◌, ◌≤◌, ℤ, pos, ◌*ℤ◌, ◌≤ℤ◌, List, [], length, All, sum_by, count_by, ◌==◌, slice_index, slice_index_or}
+use Rattle.std.specs.Prelude.{◌≡◌, ℕ, ◌<◌, ◌≤◌, ℤ, pos, ◌*ℤ◌, ◌≤ℤ◌, List, [], length, All, EachIndex, sum_by, count_by, ◌==◌, slice_index, slice_index_or}
 use Rattle.path_graph.specs.Sums.{sum_below}
 use Rattle.route_model.specs.declared.parts.Var.{Var}
 use Rattle.route_model.specs.declared.parts.Row.{Row}
@@ -23,9 +23,18 @@ pub record AreValuesOf (m : ModelParts) (plan : List Taken) (values : List ℕ) 
   pub count : length values ≡ length m.vars
   pub each : EachBelow (length m.vars) (λ j. slice_index values j ≡ value_of m plan j)
 
--- no variable is above its box, and none below
+-- a variable is not above its box; none is; none of some is; none of those that arcs use is; and none is below
+abbrev pub IsNotAbove : List Var → List ℕ → ℕ → Type 0
+IsNotAbove vars values j = (pos (slice_index values j)) ≤ℤ (var_at vars j).high
+
 abbrev pub AreNotAbove : List Var → List ℕ → Type 0
-AreNotAbove vars values = EachBelow (length vars) (λ j. (pos (slice_index values j)) ≤ℤ (var_at vars j).high)
+AreNotAbove vars values = EachBelow (length vars) (IsNotAbove vars values)
+
+abbrev pub AreNotAboveAmong : List Var → List ℕ → List ℕ → Type 0
+AreNotAboveAmong vars values used = EachIndex used (λ k. IsNotAbove vars values (slice_index used k))
+
+abbrev pub UsedAreNotAbove : List Var → List ℕ → List (List ℕ) → List ℕ → Type 0
+UsedAreNotAbove vars values maps arcs = EachIndex arcs (λ k. AreNotAboveAmong vars values (slice_index_or maps (slice_index arcs k) []))
 
 abbrev pub AreNotBelow : List Var → List ℕ → Type 0
 AreNotBelow vars values = EachBelow (length vars) (λ j. (var_at vars j).low ≤ℤ (pos (slice_index values j)))

@@ -3,7 +3,7 @@ ghost use Rattle.std.specs.Int.{w64};
 ghost use Rattle.route_model.specs.First.{EachBelow};
 ghost use Rattle.route_model.specs.Fit.{VarFits, TermFits, RowFits, cost_range};
 ghost use Rattle.route_model.specs.Solution.{IsBetween};
-ghost use Rattle.vrp_cli.specs.Values.{uses_by, AreMaps, AreNotAbove, AreNotBelow, terms_sum_at, cost_at, RowHoldsAt};
+ghost use Rattle.vrp_cli.specs.Values.{uses_by, AreMaps, AreNotAboveAmong, UsedAreNotAbove, AreNotAbove, AreNotBelow, terms_sum_at, cost_at, RowHoldsAt};
 
 use path_graph::List;
 use route_model::{Row, RowTerm, Var};
@@ -54,14 +54,31 @@ pub(super) fn remove_walk(values: &mut [u64], maps: &List<List<u32>>, arcs: &[u3
     }
 }
 
-/// Whether no variable is above its box.
-pub(super) fn are_below(vars: &[Var], values: &[u64]) -> bool
+/// Whether none of these variables is above its box.
+fn arc_fits(vars: &[Var], values: &[u64], used: &[u32]) -> bool
     requires values { length values.now ≡ length vars.now }
     requires vars { All VarFits vars.now }
-    ensures { IsTrue result ↔ AreNotAbove vars.now values.now }
+    requires used { All (λ j. j < length vars.now) used.now }
+    ensures { IsTrue result ↔ AreNotAboveAmong vars.now values.now used.now }
 {
-    for (j, var) in vars.iter().enumerate() {
-        if values[j] > var.high as u64 {
+    for var in used {
+        if values[*var as usize] > vars[*var as usize].high as u64 {
+            return false;
+        }
+    }
+    true
+}
+
+/// Whether no variable that a walk uses is above its box.
+pub(super) fn walk_fits(vars: &[Var], values: &[u64], maps: &List<List<u32>>, arcs: &[u32]) -> bool
+    requires values { length values.now ≡ length vars.now }
+    requires vars { All VarFits vars.now }
+    requires arcs { All (λ a. a < length maps.now) arcs.now }
+    requires maps { AreMaps (length vars.now) maps.now }
+    ensures { IsTrue result ↔ UsedAreNotAbove vars.now values.now maps.now arcs.now }
+{
+    for arc in arcs {
+        if !arc_fits(vars, values, maps.at(*arc as usize).as_slice()) {
             return false;
         }
     }

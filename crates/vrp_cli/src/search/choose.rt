@@ -7,10 +7,10 @@ ghost use Rattle.route_model.specs.Tidy.{AreFew};
 ghost use Rattle.route_model.specs.Verdicts.{IsCounted};
 ghost use Rattle.model_text.specs.SmallForm.{IsSmallForm};
 ghost use Rattle.vrp_cli.specs.Partial.{IsWalkList};
-ghost use Rattle.vrp_cli.specs.Values.{uses_by, AreNotAbove, ValuesSolve};
+ghost use Rattle.vrp_cli.specs.Values.{uses_by, AreNotAbove, UsedAreNotAbove, ValuesSolve};
 ghost use Rattle.vrp_cli.specs.Selection.{plan_of, IsFound, IsAtMost, IsChoiceOf, choice_left, IsBest, Considers, AddsWalk};
 
-use crate::search::checks::{add_walk, are_above, are_below, cost, remove_walk, rows_hold};
+use crate::search::checks::{add_walk, are_above, cost, remove_walk, rows_hold, walk_fits};
 use crate::search::walks::list_walks;
 use path_graph::{List, NoMemory};
 use route_model::{Model, Plan, Taken};
@@ -53,10 +53,10 @@ fn is_solution(model: &Model, choice: &Choice) -> bool
     if choice.chosen.len() < low as usize {
         return false;
     }
-    if !are_above(model.vars.as_slice(), choice.values.as_slice()) {
+    if !rows_hold(model.rows.as_slice(), choice.values.as_slice()) {
         return false;
     }
-    rows_hold(model.rows.as_slice(), choice.values.as_slice())
+    are_above(model.vars.as_slice(), choice.values.as_slice())
 }
 
 /// Whether a cost is less than that of the best solution so far.
@@ -138,6 +138,23 @@ fn remove(model: &Model, walks: &List<List<u32>>, i: usize, values: &mut Vec<u64
     );
 }
 
+/// Whether no variable that a walk uses is above its box.
+fn fits(model: &Model, walks: &List<List<u32>>, i: usize, values: &[u64]) -> bool
+    requires form { IsSmallForm model.now }
+    requires walks { IsWalkList (graph_at model.now 0) walks.now }
+    requires i { i < length walks.now }
+    requires values { length values.now ≡ length model.now.vars }
+    ensures { IsTrue result ↔ UsedAreNotAbove model.now.vars values.now
+        (maps_in model.now.maps 0) (slice_index_or walks.now i []) }
+{
+    walk_fits(
+        model.vars.as_slice(),
+        values,
+        model.maps.at(0),
+        walks.at(i).as_slice(),
+    )
+}
+
 /// Chooses the next walk, unless a variable is then above its box.
 fn try_next(
     alloc: Global,
@@ -157,7 +174,7 @@ fn try_next(
 {
     let next = choice.next;
     add(model, walks, next, &mut choice.values);
-    if !are_below(model.vars.as_slice(), choice.values.as_slice()) {
+    if !fits(model, walks, next, choice.values.as_slice()) {
         remove(model, walks, next, &mut choice.values);
         choice.next = next + 1;
         return Ok(());
