@@ -1,3 +1,5 @@
 mod checks;
 mod choose;
 mod walks;
+
+pub(crate) use choose::least_plan;
