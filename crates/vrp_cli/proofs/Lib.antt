@@ -5,3 +5,4 @@ pub mod CheckLemmas
 pub mod PlanLemmas
 pub mod ChoiceLemmas
 pub mod ExchangeLemmas
+pub mod MergeLemmas

@@ -1,10 +1,11 @@
 -- Selections of walks from a list, and the search for the best one.
-use Rattle.std.specs.Prelude.{◌≡◌, ℕ, ◌+◌, ◌<◌, ◌≤◌, ℤ, ◌≤ℤ◌, List, [], ◌∷◌, length, map, All, Option, None, Some, IfSome, slice_index, slice_index_or, ◌⊎◌}
+use Rattle.std.specs.Prelude.{◌≡◌, ℕ, ◌+◌, ◌<◌, ◌≤◌, ℤ, ◌≤ℤ◌, List, [], ◌∷◌, length, map, All, Option, None, Some, IfSome, Contains, slice_index, slice_index_or, ◌⊎◌}
 use Rattle.route_model.specs.declared.plan.Taken.{Taken}
 use Rattle.route_model.specs.Parts.{ModelParts, graph_at, maps_in}
 use Rattle.route_model.specs.First.{EachBelow}
 use Rattle.route_model.specs.Quantities.{cost_of}
 use Rattle.route_model.specs.Solution.{IsSolution}
+use Rattle.route_model.specs.Tidy.{KeepsQuantities}
 use Rattle.vrp_cli.specs.declared.search.choose.Found.{Found}
 use Rattle.vrp_cli.specs.declared.search.choose.Choice.{Choice}
 use Rattle.vrp_cli.specs.Ahead.{IsAhead, work_left}
@@ -75,3 +76,10 @@ pub record AddsWalk (m : ModelParts) (walks : List (List ℕ)) (i : ℕ) (old ne
   pub before : length old ≡ length m.vars
   pub after : length new ≡ length m.vars
   pub each : EachBelow (length m.vars) (λ j. slice_index new j ≡ slice_index old j + uses_by (maps_in m.maps 0) j (slice_index_or walks i []))
+
+-- each path takes a walk of the list, and the plan has the quantities of the chosen walks
+pub record IsMerged (walks : List (List ℕ)) (chosen : List ℕ) (plan : List Taken) : Type 0 where
+  pub walks_of : All (λ t. (t.graph ≡ 0) × (1 ≤ t.count) × Contains walks t.arcs) plan
+  pub few : length plan ≤ length chosen
+  pub counts : All (λ t. t.count ≤ length chosen) plan
+  pub keeps : KeepsQuantities (plan_of walks chosen) plan
