@@ -1,5 +1,5 @@
 -- Steps of the search for the best selection of walks.
-use Rattle.std.proofs.Common.{◌≡◌, ◌≢◌, ℕ, zero, suc, ◌+◌, ◌*◌, ◌<◌, ◌≤◌, ℤ, pos, ◌≤ℤ◌, List, [], ◌∷◌, ◌++◌, length, map, get_or, take, ◌⊎◌, inl, inr, arith, sym, ◌∙◌, ap, subst, refl, All, Option, Some, None, IfSome, slice_index, slice_index_or, append_assoc, replicate, Vec, Global, cond, eqb}
+use Rattle.std.proofs.Common.{◌≡◌, ℕ, suc, ◌+◌, ◌<◌, ◌≤◌, ℤ, List, [], ◌∷◌, ◌++◌, length, get_or, ◌⊎◌, inl, inr, arith, sym, ◌∙◌, ap, subst, refl, All, Option, None, IfSome, slice_index, append_assoc, replicate, Vec, Global, cond, eqb}
 use Rattle.std.proofs.lemmas.Int.{ints}
 use Rattle.std.proofs.lemmas.List.{length_push, get_or_push, take_at, get_or-append-add, length-append, length-replicate, get_or-replicate}
 use Rattle.std.proofs.lemmas.List.Elements.{All-nil, All-push, All-take, All-from_get_or}
@@ -9,7 +9,7 @@ use Rattle.std.specs.Prelude.{count_by}
 use Rattle.route_model.specs.Fit.{VarFits}
 use Rattle.route_model.specs.Parts.{ModelParts, var_at, graph_at, maps_in}
 use Rattle.route_model.specs.First.{EachBelow}
-use Rattle.route_model.specs.Quantities.{uses_in, value_of, cost_of}
+use Rattle.route_model.specs.Quantities.{uses_in, cost_of}
 use Rattle.route_model.specs.Solution.{IsSolution}
 use Rattle.model_text.specs.SmallForm.{IsSmallForm}
 use Rattle.vrp_cli.specs.declared.search.choose.Found.{Found}
@@ -18,7 +18,7 @@ use Rattle.vrp_cli.specs.Ahead.{IsAhead, work_left}
 use Rattle.vrp_cli.specs.Partial.{IsWalkList}
 use Rattle.vrp_cli.specs.Values.{uses_by, AreValuesOf, IsNotAbove, AreNotAbove, UsedAreNotAbove, ValuesSolve, cost_at}
 use Rattle.vrp_cli.specs.Selection.{plan_of, IsSelection, IsRisingFrom, IsFound, IsAtMost, IsChoice, IsChoiceOf, choice_left, IsBest, Considers, AddsWalk}
-use Rattle.vrp_cli.proofs.AheadLemmas.{GoesBy, GoesOver, ahead_next, ahead_deeper, ahead_longer, ahead_back, left_skips, left_deeper, left_back}
+use Rattle.vrp_cli.proofs.AheadLemmas.{GoesOver, ahead_next, ahead_deeper, ahead_longer, ahead_back, left_deeper, left_back}
 use Rattle.vrp_cli.proofs.PlanLemmas.{quantity_more, other_counts, are_maps, walk_has_maps, value_of-push, solves, passes_if_solves, cost_at-same}
 
 -- values with a walk more, and with one less

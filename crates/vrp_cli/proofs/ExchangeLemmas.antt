@@ -1,21 +1,21 @@
 -- Each solution has the quantities of a rising selection, so the best selection is a least solution.
-use Rattle.std.proofs.Common.{◌≡◌, ℕ, zero, suc, ◌+◌, ◌*◌, ◌<◌, ◌≤◌, ◌^◌, ◌-◌, ℤ, ◌≤ℤ◌, List, [], ◌∷◌, length, get_or, ◌⊎◌, inl, inr, arith, sym, ◌∙◌, ap, subst, refl, All, Contains, Option, Some, None, IfSome, Bool, true, false, cond, eqb}
+use Rattle.std.proofs.Common.{◌≡◌, ℕ, zero, suc, ◌+◌, ◌*◌, ◌<◌, ◌≤◌, ℤ, ◌≤ℤ◌, List, [], ◌∷◌, length, get_or, inl, inr, arith, sym, ◌∙◌, ap, subst, refl, All, Option, Some, None, IfSome, Bool, true, false, cond, eqb}
 use Rattle.std.specs.Prelude.{sum_by}
 use Rattle.std.proofs.lemmas.Bool.{cases_lt}
 use Rattle.std.proofs.lemmas.List.{get_or_default}
 use Rattle.std.proofs.lemmas.List.Sums.{sum_by-cons, sum_by-le}
 use Rattle.std.proofs.lemmas.List.Elements.{All-nil, All-cons}
-use Rattle.path_graph.specs.Walk.{GraphParts, IsGraph, IsFeasibleWalk}
+use Rattle.path_graph.specs.Walk.{IsGraph, IsFeasibleWalk}
 use Rattle.route_model.specs.declared.plan.Taken.{Taken}
 use Rattle.route_model.specs.Parts.{ModelParts, graph_at, taken_at}
 use Rattle.route_model.specs.First.{EachBelow}
-use Rattle.route_model.specs.Quantities.{quantity, is_of, cost_of}
+use Rattle.route_model.specs.Quantities.{is_of, cost_of}
 use Rattle.route_model.specs.Tidy.{KeepsQuantities, AreFew}
 use Rattle.route_model.specs.Solution.{IsPath, IsSolution, IsLeast, HasNoSolution}
 use Rattle.model_text.specs.SmallForm.{IsSmallForm}
 use Rattle.vrp_cli.specs.declared.search.choose.Found.{Found}
 use Rattle.vrp_cli.specs.Partial.{IsWalkList}
-use Rattle.vrp_cli.specs.Selection.{taken_once, plan_of, IsSelection, IsRisingFrom, IsFound, IsAtMost, IsBest}
+use Rattle.vrp_cli.specs.Selection.{plan_of, IsSelection, IsRisingFrom, IsFound, IsAtMost, IsBest}
 use Rattle.vrp_cli.proofs.PlanLemmas.{quantity-plan_of, paths_of-plan_of, selected_path, solution_kept, cost_kept}
 
 -- a rising list of numbers below n that has what xs has, and the number i so many times more

@@ -1,20 +1,20 @@
 -- A plan in which the walks that were chosen several times in a row are merged.
-use Rattle.std.proofs.Common.{◌≡◌, ℕ, ◌+◌, ◌*◌, ◌<◌, ◌≤◌, ◌^◌, ◌-◌, ℤ, ◌≤ℤ◌, List, [], ◌∷◌, ◌++◌, length, get_or, take, arith, sym, ◌∙◌, ap, subst, refl, All, Contains, Option, Some, IfSome, slice_index}
+use Rattle.std.proofs.Common.{◌≡◌, ℕ, ◌+◌, ◌*◌, ◌<◌, ◌≤◌, ℤ, ◌≤ℤ◌, List, [], ◌∷◌, ◌++◌, length, get_or, take, arith, sym, ◌∙◌, ap, subst, refl, All, Contains, slice_index}
 use Rattle.std.specs.Prelude.{sum_by}
-use Rattle.std.proofs.lemmas.List.{length_push, take_all, get_or_default}
+use Rattle.std.proofs.lemmas.List.{length_push, take_all}
 use Rattle.std.proofs.lemmas.List.Sums.{sum_by_more, sum_by_push}
 use Rattle.std.proofs.lemmas.List.Elements.{All-nil, All-push, All-weaker, All-contains, Contains-get_or}
-use Rattle.path_graph.specs.Walk.{IsGraph, IsFeasibleWalk}
+use Rattle.path_graph.specs.Walk.{IsFeasibleWalk}
 use Rattle.route_model.specs.declared.plan.Taken.{Taken}
 use Rattle.route_model.specs.Parts.{ModelParts, graph_at, taken_at}
 use Rattle.route_model.specs.First.{EachBelow}
 use Rattle.route_model.specs.Quantities.{quantity, is_of, cost_of}
-use Rattle.route_model.specs.Tidy.{KeepsQuantities, AreFew}
+use Rattle.route_model.specs.Tidy.{AreFew}
 use Rattle.route_model.specs.Verdicts.{IsCounted}
-use Rattle.route_model.specs.Solution.{IsPath, IsSolution, IsLeast}
+use Rattle.route_model.specs.Solution.{IsPath, IsLeast}
 use Rattle.model_text.specs.SmallForm.{IsSmallForm}
 use Rattle.vrp_cli.specs.Partial.{IsWalkList}
-use Rattle.vrp_cli.specs.Selection.{plan_of, IsSelection, IsMerged}
+use Rattle.vrp_cli.specs.Selection.{plan_of, IsMerged}
 use Rattle.vrp_cli.proofs.PlanLemmas.{quantity-plan_of, solution_kept, cost_kept}
 
 -- a path takes a walk of the list

@@ -1,5 +1,5 @@
 -- Quantities of the plan of a selection, and which selections are solutions.
-use Rattle.std.proofs.Common.{◌≡◌, ◌≢◌, ℕ, zero, suc, ◌+◌, ◌*◌, ◌<◌, ◌≤◌, ℤ, pos, ◌*ℤ◌, ◌≤ℤ◌, List, [], ◌∷◌, ◌++◌, length, map, get_or, ◌⊎◌, inl, inr, arith, sym, ◌∙◌, ap, subst, refl, All, Bool, true, false, cond, ◌||◌, eqb, slice_index, slice_index_or}
+use Rattle.std.proofs.Common.{◌≡◌, ◌≢◌, ℕ, suc, ◌+◌, ◌*◌, ◌<◌, ◌≤◌, pos, ◌*ℤ◌, ◌≤ℤ◌, List, [], ◌∷◌, ◌++◌, length, get_or, inl, inr, arith, sym, ◌∙◌, ap, subst, refl, All, Bool, true, false, cond, ◌||◌, eqb, slice_index}
 use Rattle.std.specs.Prelude.{sum_by, count_by}
 use Rattle.std.specs.List.{list_any}
 use Rattle.std.specs.List.Sorted.{IsStrictlyIncreasing}
@@ -8,19 +8,18 @@ use Rattle.std.proofs.lemmas.Bool.Decides.{nat_tests}
 use Rattle.std.proofs.lemmas.List.{get_or_past, get_or-map, length-map}
 use Rattle.std.proofs.lemmas.List.Sums.{sum_by-cons, sum_by-append, sum_by_push, sum_by-le-sum_by, count_by-le-length}
 use Rattle.std.proofs.lemmas.List.Elements.{All-weaker}
-use Rattle.path_graph.specs.Walk.{GraphParts, IsFeasibleWalk}
 use Rattle.path_graph.proofs.SumLemmas.{sum_below-same}
 use Rattle.route_model.specs.declared.plan.Taken.{Taken}
 use Rattle.route_model.specs.declared.parts.Row.{Row}
 use Rattle.route_model.specs.Parts.{ModelParts, var_at, row_at, term_at, graph_at, graph_in, maps_in, mapped_vars, taken_at}
 use Rattle.route_model.specs.First.{EachBelow}
-use Rattle.route_model.specs.Fit.{ModelFits, GraphMapsFit, MapFits, RowFits, TermFits}
-use Rattle.route_model.specs.Quantities.{quantity, is_mapped, uses_in, value_of, visits_in, visits_of, is_of, paths_of, row_sum, cost_of}
+use Rattle.route_model.specs.Fit.{GraphMapsFit, MapFits, RowFits}
+use Rattle.route_model.specs.Quantities.{quantity, is_mapped, uses_in, value_of, visits_in, is_of, paths_of, row_sum, cost_of}
 use Rattle.route_model.specs.Tidy.{KeepsQuantities}
-use Rattle.route_model.specs.Solution.{IsPath, CountFits, SetFits, InBox, IsBetween, RowHolds, IsSolution}
+use Rattle.route_model.specs.Solution.{IsPath, CountFits, IsBetween, IsSolution}
 use Rattle.model_text.specs.SmallForm.{IsSmallForm}
-use Rattle.vrp_cli.specs.Partial.{end_of, IsWalkList}
-use Rattle.vrp_cli.specs.Values.{uses_by, AreMaps, AreValuesOf, AreNotAbove, AreNotBelow, terms_sum_at, cost_at, RowHoldsAt, ValuesSolve}
+use Rattle.vrp_cli.specs.Partial.{IsWalkList}
+use Rattle.vrp_cli.specs.Values.{uses_by, AreMaps, AreValuesOf, AreNotAbove, terms_sum_at, cost_at, ValuesSolve}
 use Rattle.vrp_cli.specs.Selection.{taken_once, plan_of, IsSelection}
 use Rattle.vrp_cli.proofs.PartialLemmas.{leads_below}
 

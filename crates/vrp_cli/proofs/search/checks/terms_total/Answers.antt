@@ -1,4 +1,4 @@
-use Rattle.std.proofs.Common.{ℕ, arith, refl, get_or, pos, ◌*ℤ◌, slice_index}
+use Rattle.std.proofs.Common.{ℕ, pos, ◌*ℤ◌, slice_index}
 use Rattle.std.specs.Int.{w64}
 use Rattle.path_graph.proofs.SumLemmas.{signed_loop_step}
 use Rattle.route_model.specs.Parts.{term_at}

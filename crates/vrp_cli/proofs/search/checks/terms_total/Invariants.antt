@@ -1,4 +1,4 @@
-use Rattle.std.proofs.Common.{◌*◌, pos, ◌*ℤ◌, slice_index}
+use Rattle.std.proofs.Common.{pos, ◌*ℤ◌, slice_index}
 use Rattle.path_graph.proofs.SumLemmas.{IsSumWithin}
 use Rattle.route_model.specs.Parts.{term_at}
 use Rattle.vrp_cli.proofs.search.checks.terms_total.Given as goal

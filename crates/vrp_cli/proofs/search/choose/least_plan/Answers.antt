@@ -1,9 +1,6 @@
-use Rattle.std.proofs.Common.{◌≡◌, ℕ, List, Option, Some, IfSome, subst, sym, ◌∙◌, ap, rules}
+use Rattle.std.proofs.Common.{◌≡◌, ℕ, List, Option, IfSome, subst, sym, ◌∙◌, ap, rules}
 use Rattle.path_graph.specs.Walk.{GraphParts}
-use Rattle.route_model.specs.declared.plan.Taken.{Taken}
 use Rattle.route_model.specs.Parts.{ModelParts, graph_at}
-use Rattle.route_model.specs.Tidy.{AreFew}
-use Rattle.route_model.specs.Verdicts.{IsCounted}
 use Rattle.vrp_cli.specs.declared.search.choose.Found.{Found}
 use Rattle.vrp_cli.specs.Partial.{IsWalkList}
 use Rattle.vrp_cli.specs.Selection.{IsFound, IsMerged}

@@ -1,4 +1,4 @@
-use Rattle.std.proofs.Common.{◌≡◌, ℕ, ◌+◌, List, [], get_or, length, subst, sym, ◌∙◌, refl, arith}
+use Rattle.std.proofs.Common.{◌≡◌, ◌+◌, List, [], get_or, length, subst, sym, ◌∙◌, refl, arith}
 use Rattle.route_model.specs.declared.plan.Taken.{Taken}
 use Rattle.vrp_cli.proofs.MergeLemmas.{Merges, merges_on, merges_push, merged}
 use Rattle.vrp_cli.proofs.search.choose.plan_of.Goals as goal
