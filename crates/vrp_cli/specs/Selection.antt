@@ -46,19 +46,23 @@ pub record IsChoice (m : ModelParts) (walks : List (List ℕ)) (chosen : List �
   pub values_are : AreValuesOf m (plan_of walks chosen) values
   pub not_above : AreNotAbove m.vars values
   pub found : IfSome best (IsFound m walks)
-  pub covered : (xs : List ℕ) → IsRisingFrom 0 xs → IsSelection m walks xs → IsSolution m (plan_of walks xs) → IsAtMost best (cost_of m (plan_of walks xs)) ⊎ IsAhead chosen next xs
+  pub covered : (xs : List ℕ) → IsRisingFrom 0 xs → IsSelection m walks xs
+      → IsSolution m (plan_of walks xs)
+      → IsAtMost best (cost_of m (plan_of walks xs)) ⊎ IsAhead chosen next xs
 
 -- the search stands there, and how much is left of it
 abbrev pub IsChoiceOf : ModelParts → List (List ℕ) → Choice → Type 0
 IsChoiceOf m walks c = IsChoice m walks c.chosen.items c.next c.values.items c.best
 
 abbrev pub choice_left : ModelParts → List (List ℕ) → Choice → ℕ
-choice_left m walks c = work_left (length walks) ((graph_at m 0).ends.high + 1) c.chosen.items c.next
+choice_left m walks c =
+    work_left (length walks) ((graph_at m 0).ends.high + 1) c.chosen.items c.next
 
 -- the best of all rising selections
 pub record IsBest (m : ModelParts) (walks : List (List ℕ)) (best : Option Found) : Type 0 where
   pub found : IfSome best (IsFound m walks)
-  pub least : (xs : List ℕ) → IsRisingFrom 0 xs → IsSelection m walks xs → IsSolution m (plan_of walks xs) → IsAtMost best (cost_of m (plan_of walks xs))
+  pub least : (xs : List ℕ) → IsRisingFrom 0 xs → IsSelection m walks xs
+      → IsSolution m (plan_of walks xs) → IsAtMost best (cost_of m (plan_of walks xs))
 
 -- what a choice finds is kept if it is a solution that costs less
 pub record Considers (m : ModelParts) (old new : Choice) : Type 0 where
@@ -68,14 +72,16 @@ pub record Considers (m : ModelParts) (old new : Choice) : Type 0 where
   pub best : (new.best ≡ old.best)
       ⊎ (ValuesSolve m (length old.chosen.items) old.values.items
       × (new.best ≡ Some (record { cost = cost_at m.vars old.values.items; chosen = old.chosen.items })))
-  pub considered : ValuesSolve m (length old.chosen.items) old.values.items → IsAtMost new.best (cost_at m.vars old.values.items)
+  pub considered : ValuesSolve m (length old.chosen.items) old.values.items
+      → IsAtMost new.best (cost_at m.vars old.values.items)
   pub kept : (cost : ℤ) → IsAtMost old.best cost → IsAtMost new.best cost
 
 -- the new values are the old ones and what a walk uses
 pub record AddsWalk (m : ModelParts) (walks : List (List ℕ)) (i : ℕ) (old new : List ℕ) : Type 0 where
   pub before : length old ≡ length m.vars
   pub after : length new ≡ length m.vars
-  pub each : EachBelow (length m.vars) (λ j. slice_index new j ≡ slice_index old j + uses_by (maps_in m.maps 0) j (slice_index_or walks i []))
+  pub each : EachBelow (length m.vars) (λ j.
+      slice_index new j ≡ slice_index old j + uses_by (maps_in m.maps 0) j (slice_index_or walks i []))
 
 -- each path takes a walk of the list, and the plan has the quantities of the chosen walks
 pub record IsMerged (walks : List (List ℕ)) (chosen : List ℕ) (plan : List Taken) : Type 0 where
