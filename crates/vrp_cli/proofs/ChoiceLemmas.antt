@@ -16,7 +16,7 @@ use Rattle.vrp_cli.specs.declared.search.choose.Found.{Found}
 use Rattle.vrp_cli.specs.declared.search.choose.Choice.{Choice}
 use Rattle.vrp_cli.specs.Ahead.{IsAhead, work_left}
 use Rattle.vrp_cli.specs.Partial.{IsWalkList}
-use Rattle.vrp_cli.specs.Values.{uses_by, Has, AreValuesOf, IsNotAbove, AreNotAbove, UsedAreNotAbove, ValuesSolve, cost_at}
+use Rattle.vrp_cli.specs.Values.{uses_by, HasAtLeast, AreValuesOf, IsNotAbove, AreNotAbove, UsedAreNotAbove, ValuesSolve, cost_at}
 use Rattle.vrp_cli.specs.Selection.{plan_of, IsSelection, IsRisingFrom, IsFound, IsAtMost, IsChoice, IsChoiceOf, choice_left, IsBest, Considers, AddsWalk}
 use Rattle.vrp_cli.proofs.AheadLemmas.{GoesOver, ahead_next, ahead_deeper, ahead_longer, ahead_back, left_deeper, left_back}
 use Rattle.vrp_cli.proofs.PlanLemmas.{quantity_more, other_counts, are_maps, walk_has_maps, value_of-push, solves, passes_if_solves, cost_at-same}
@@ -34,7 +34,7 @@ values_pop m walks xs i old new form h a = record {
   each = λ j l. omega (arith, a.each j l, h.each j l, value_of-push m walks xs i j form);
 }
 
-pub has_walk : (m : ModelParts) (walks : List (List ℕ)) (xs : List ℕ) (i : ℕ) (values : List ℕ) → IsSmallForm m → AreValuesOf m (plan_of walks (xs ++ i ∷ [])) values → Has (λ j. uses_by (maps_in m.maps 0) j (get_or walks i [])) values
+pub has_walk : (m : ModelParts) (walks : List (List ℕ)) (xs : List ℕ) (i : ℕ) (values : List ℕ) → IsSmallForm m → AreValuesOf m (plan_of walks (xs ++ i ∷ [])) values → HasAtLeast (λ j. uses_by (maps_in m.maps 0) j (get_or walks i [])) values
 has_walk m walks xs i values form h j l =
     let within : j < length m.vars = omega (arith, h.count) in
     omega (arith, h.each j within, value_of-push m walks xs i j form)

@@ -37,7 +37,8 @@ IsDistinct walks =
     (i j : ℕ) → i < j → j < length walks → slice_index_or walks i [] ≢ slice_index_or walks j []
 
 -- each feasible walk is listed or still to come, and none both
-pub record IsListing (g : GraphParts) (arcs : List ℕ) (values : List Values) (next : ℕ) (walks : List (List ℕ)) : Type 0 where
+pub record IsListing (g : GraphParts) (arcs : List ℕ) (values : List Values) (next : ℕ)
+    (walks : List (List ℕ)) : Type 0 where
   pub partial_walk : IsPartialWalk g arcs
   pub values_of : values ≡ values_along g (root_of g) arcs
   pub next_within : next ≤ length g.arcs

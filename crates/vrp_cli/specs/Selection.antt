@@ -40,7 +40,8 @@ IsAtMost None cost = ⊥
 IsAtMost (Some found) cost = found.cost ≤ℤ cost
 
 -- each rising selection that is a solution costs no less than the best so far, or is still to come
-pub record IsChoice (m : ModelParts) (walks : List (List ℕ)) (chosen : List ℕ) (next : ℕ) (values : List ℕ) (best : Option Found) : Type 0 where
+pub record IsChoice (m : ModelParts) (walks : List (List ℕ)) (chosen : List ℕ) (next : ℕ)
+    (values : List ℕ) (best : Option Found) : Type 0 where
   pub selection : IsSelection m walks chosen
   pub next_within : next ≤ length walks
   pub values_are : AreValuesOf m (plan_of walks chosen) values
@@ -71,17 +72,22 @@ pub record Considers (m : ModelParts) (old new : Choice) : Type 0 where
   pub values : new.values ≡ old.values
   pub best : (new.best ≡ old.best)
       ⊎ (ValuesSolve m (length old.chosen.items) old.values.items
-      × (new.best ≡ Some (record { cost = cost_at m.vars old.values.items; chosen = old.chosen.items })))
+      × (new.best ≡ Some (record {
+        cost = cost_at m.vars old.values.items;
+        chosen = old.chosen.items;
+      })))
   pub considered : ValuesSolve m (length old.chosen.items) old.values.items
       → IsAtMost new.best (cost_at m.vars old.values.items)
   pub kept : (cost : ℤ) → IsAtMost old.best cost → IsAtMost new.best cost
 
 -- the new values are the old ones and what a walk uses
-pub record AddsWalk (m : ModelParts) (walks : List (List ℕ)) (i : ℕ) (old new : List ℕ) : Type 0 where
+pub record AddsWalk (m : ModelParts) (walks : List (List ℕ)) (i : ℕ)
+    (old new : List ℕ) : Type 0 where
   pub before : length old ≡ length m.vars
   pub after : length new ≡ length m.vars
   pub each : EachBelow (length m.vars) (λ j.
-      slice_index new j ≡ slice_index old j + uses_by (maps_in m.maps 0) j (slice_index_or walks i []))
+      let uses = uses_by (maps_in m.maps 0) j (slice_index_or walks i []) in
+      slice_index new j ≡ slice_index old j + uses)
 
 -- each path takes a walk of the list, and the plan has the quantities of the chosen walks
 pub record IsMerged (walks : List (List ℕ)) (chosen : List ℕ) (plan : List Taken) : Type 0 where

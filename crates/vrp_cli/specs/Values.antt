@@ -22,8 +22,8 @@ times_in vars j = count_by (λ i. i == j) vars
 abbrev pub HasRoomFor : (ℕ → ℕ) → List ℕ → Type 0
 HasRoomFor uses values = (j : ℕ) → j < length values → slice_index values j + uses j < 2 ^ 64
 
-abbrev pub Has : (ℕ → ℕ) → List ℕ → Type 0
-Has uses values = (j : ℕ) → j < length values → uses j ≤ slice_index values j
+abbrev pub HasAtLeast : (ℕ → ℕ) → List ℕ → Type 0
+HasAtLeast uses values = (j : ℕ) → j < length values → uses j ≤ slice_index values j
 
 abbrev pub GrowsBy : (ℕ → ℕ) → List ℕ → List ℕ → Type 0
 GrowsBy uses old new = (j : ℕ) → j < length old → slice_index new j ≡ slice_index old j + uses j
@@ -63,7 +63,8 @@ AreNotBelow vars values =
 -- the sum of a row, and the cost
 abbrev pub terms_sum_at : List ℕ → List RowTerm → ℤ
 terms_sum_at values terms =
-    sum_below (length terms) (λ k. (term_at terms k).coef *ℤ pos (slice_index values (term_at terms k).var))
+    sum_below (length terms) (λ k.
+    (term_at terms k).coef *ℤ pos (slice_index values (term_at terms k).var))
 
 abbrev pub cost_at : List Var → List ℕ → ℤ
 cost_at vars values =

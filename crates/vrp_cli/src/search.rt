@@ -1,3 +1,5 @@
 mod checks;
 mod choose;
 mod walks;
+
+pub(crate) use choose::{Best, least_plan};

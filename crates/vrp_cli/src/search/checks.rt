@@ -3,7 +3,7 @@ ghost use Rattle.std.specs.Int.{w64};
 ghost use Rattle.route_model.specs.First.{EachBelow};
 ghost use Rattle.route_model.specs.Fit.{VarFits, TermFits, RowFits, cost_range};
 ghost use Rattle.route_model.specs.Solution.{IsBetween};
-ghost use Rattle.vrp_cli.specs.Values.{uses_by, times_in, HasRoomFor, Has, GrowsBy, ShrinksBy, AreMaps, AreNotAboveAmong, UsedAreNotAbove, AreNotAbove, AreNotBelow, terms_sum_at, cost_at, RowHoldsAt};
+ghost use Rattle.vrp_cli.specs.Values.{uses_by, times_in, HasRoomFor, HasAtLeast, GrowsBy, ShrinksBy, AreMaps, AreNotAboveAmong, UsedAreNotAbove, AreNotAbove, AreNotBelow, terms_sum_at, cost_at, RowHoldsAt};
 
 use path_graph::List;
 use route_model::{Row, RowTerm, Var};
@@ -34,7 +34,7 @@ pub(super) fn add_walk(values: &mut [u64], maps: &List<List<u32>>, arcs: &[u32])
 /// Takes what an arc uses from the values of the variables.
 fn remove_arc(values: &mut [u64], vars: &[u32])
     requires vars { All (λ j. j < length values.old) vars.now }
-    requires enough { Has (times_in vars.now) values.old }
+    requires enough { HasAtLeast (times_in vars.now) values.old }
     ensures { ShrinksBy (times_in vars.now) values.old values.new }
 {
     for var in vars {
@@ -46,7 +46,7 @@ fn remove_arc(values: &mut [u64], vars: &[u32])
 pub(super) fn remove_walk(values: &mut [u64], maps: &List<List<u32>>, arcs: &[u32])
     requires arcs { All (λ a. a < length maps.now) arcs.now }
     requires maps { AreMaps (length values.old) maps.now }
-    requires enough { Has (λ j. uses_by maps.now j arcs.now) values.old }
+    requires enough { HasAtLeast (λ j. uses_by maps.now j arcs.now) values.old }
     ensures { ShrinksBy (λ j. uses_by maps.now j arcs.now) values.old values.new }
 {
     for arc in arcs {

@@ -7,7 +7,7 @@ ghost use Rattle.route_model.specs.Tidy.{AreFew};
 ghost use Rattle.route_model.specs.Verdicts.{IsCounted};
 ghost use Rattle.model_text.specs.SmallForm.{IsSmallForm};
 ghost use Rattle.vrp_cli.specs.Partial.{IsWalkList};
-ghost use Rattle.vrp_cli.specs.Values.{uses_by, Has, AreNotAbove, UsedAreNotAbove, ValuesSolve};
+ghost use Rattle.vrp_cli.specs.Values.{uses_by, HasAtLeast, AreNotAbove, UsedAreNotAbove, ValuesSolve};
 ghost use Rattle.vrp_cli.specs.Selection.{IsFound, IsAtMost, IsChoiceOf, choice_left, IsBest, Considers, AddsWalk, IsMerged};
 
 use crate::search::checks::{add_walk, are_above, cost, remove_walk, rows_hold, walk_fits};
@@ -128,7 +128,7 @@ fn remove(model: &Model, walks: &List<List<u32>>, i: usize, values: &mut Vec<u64
     requires i { i < length walks.now }
     requires values { length values.old.items ≡ length model.now.vars }
     requires enough { let walk = slice_index_or walks.now i [] in
-        Has (λ j. uses_by (maps_in model.now.maps 0) j walk) values.old.items }
+        HasAtLeast (λ j. uses_by (maps_in model.now.maps 0) j walk) values.old.items }
     ensures { AddsWalk model.now walks.now i values.new.items values.old.items }
 {
     remove_walk(

@@ -61,8 +61,11 @@ fn values_over(g: &Graph, listing: &Listing) -> Option<Values>
 /// Lists the partial walk with the next arc, which enters the sink.
 fn finish(alloc: Global, listing: &mut Listing) -> Result<(), NoMemory>
     requires { listing.old.next < 2 ^ 32 - 1 }
-    ensures { let walks = listing.old.walks ++ (listing.old.arcs.items ++ listing.old.next ∷ []) ∷ [] in
-        OnOk result (listing.new ≡ record listing.old { next = listing.old.next + 1; walks = walks }) }
+    ensures { let walk = listing.old.arcs.items ++ listing.old.next ∷ [] in
+        OnOk result (listing.new ≡ record listing.old {
+          next = listing.old.next + 1;
+          walks = listing.old.walks ++ walk ∷ [];
+        }) }
 {
     let mut arcs = Vec::from_slice(alloc, listing.arcs.as_slice())?;
     arcs.push(listing.next)?;
