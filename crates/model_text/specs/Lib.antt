@@ -1,3 +1,5 @@
 pub mod Lines
 pub mod ModelText
 pub mod SmallForm
+pub mod Kinds
+pub mod Guess

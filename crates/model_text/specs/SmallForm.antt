@@ -3,6 +3,9 @@ use Rattle.std.specs.Prelude.{◌≡◌, ℕ, List, length}
 use Rattle.path_graph.specs.Within.{ConsumesBeforeSink}
 use Rattle.route_model.specs.Parts.{ModelParts, graph_at}
 use Rattle.route_model.specs.Fit.{IsModel}
+use Rattle.model_text.specs.declared.kind.Kind.TheVariants.{Unbuilt}
+use Rattle.model_text.specs.declared.kind.ReadError.{ReadError}
+use Rattle.model_text.specs.declared.kind.ReadError.TheVariants.{Text, Memory}
 use Rattle.model_text.specs.ModelText.{model_text}
 
 -- a model of one graph with one main resource and no secondary one, without packing sets, in which
@@ -22,3 +25,8 @@ pub record Spells (bytes : List ℕ) (m : ModelParts) : Type 0 where
 
 abbrev pub SpellsNothing : List ℕ → Type 0
 SpellsNothing bytes = (m : ModelParts) → Spells bytes m → ⊥
+
+-- a fault of a text is Unbuilt in line 1, and then Q holds; want of memory says nothing
+abbrev pub IsUnbuiltWhere : Type 0 → ReadError → Type 0
+IsUnbuiltWhere Q Memory = Unit {0}
+IsUnbuiltWhere Q (Text fault) = (fault ≡ record { line = 1; kind = Unbuilt }) × Q

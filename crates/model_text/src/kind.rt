@@ -1,3 +1,8 @@
+ghost use Rattle.std.specs.Prelude.{◌≡◌};
+ghost use Rattle.model_text.specs.Kinds.{kind_number, kind_name};
+
+use path_graph::NoMemory;
+
 /// The kinds of faults of a text, with their numbers.
 #[derive(Clone, Copy, Debug, PartialEq, Eq)]
 pub enum Kind {
@@ -21,6 +26,40 @@ pub enum Kind {
     Unbuilt = 17,
 }
 
+impl Kind {
+    /// The number of the kind.
+    pub fn number(self) -> u8
+        ensures { result ≡ kind_number self }
+    {
+        self as u8
+    }
+
+    /// The name of the kind.
+    pub fn name(self) -> &'static str
+        ensures { result.now ≡ kind_name self }
+    {
+        match self {
+            Kind::Version => "Version",
+            Kind::Word => "Word",
+            Kind::Number => "Number",
+            Kind::Range => "Range",
+            Kind::Order => "Order",
+            Kind::Unknown => "Unknown",
+            Kind::EndMissing => "EndMissing",
+            Kind::AfterEnd => "AfterEnd",
+            Kind::Ends => "Ends",
+            Kind::Window => "Window",
+            Kind::MainNegative => "MainNegative",
+            Kind::FreeCycle => "FreeCycle",
+            Kind::Box => "Box",
+            Kind::CostRange => "CostRange",
+            Kind::TooMany => "TooMany",
+            Kind::Byte => "Byte",
+            Kind::Unbuilt => "Unbuilt",
+        }
+    }
+}
+
 /// The first fault of a text: its line, counted from 1, and its kind.
 #[derive(Clone, Copy, Debug, PartialEq, Eq)]
 pub struct TextFault {
@@ -33,4 +72,14 @@ pub struct TextFault {
 pub enum ReadError {
     Text(TextFault),
     Memory,
+}
+
+impl From<NoMemory> for ReadError {
+    ghost use Rattle.model_text.specs.declared.kind.ReadError.TheVariants.{Memory};
+
+    ghost from_gives = { λ _ e. e ≡ Memory };
+
+    fn from(_error: NoMemory) -> ReadError {
+        ReadError::Memory
+    }
 }

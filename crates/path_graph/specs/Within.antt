@@ -1,3 +1,4 @@
+-- What lies in windows and limits.
 use Rattle.std.specs.Prelude.{◌≢◌, ℕ, ◌<◌, ℤ, pos, ◌≤ℤ◌, neg_ℤ, List, All}
 use Rattle.path_graph.specs.declared.parts.GraphArc.{GraphArc}
 use Rattle.path_graph.specs.declared.parts.Ends.{Ends}
@@ -13,9 +14,13 @@ ConsumesBeforeSink ends arcs = All (λ arc. arc.head ≢ ends.sink → pos 1 ≤
 abbrev pub AreWithin : List Window → Values → Type 0
 AreWithin windows value = (k : ℕ) → k < 6 → ((window_at windows k).low ≤ℤ (int_at value.at k)) × ((int_at value.at k) ≤ℤ (window_at windows k).high)
 
+-- z is within n of 0
+abbrev pub IsWithin : ℕ → ℤ → Type 0
+IsWithin n z = ((neg_ℤ (pos n)) ≤ℤ z) × (z ≤ℤ (pos n))
+
 -- in the limits of windows and consumptions
 abbrev pub IsInLimits : ℤ → Type 0
-IsInLimits x = ((neg_ℤ (pos 100000000)) ≤ℤ x) × (x ≤ℤ (pos 100000000))
+IsInLimits x = IsWithin 100000000 x
 
 abbrev pub AreInLimits : List ℤ → Type 0
 AreInLimits xs = (k : ℕ) → k < 6 → IsInLimits (int_at xs k)

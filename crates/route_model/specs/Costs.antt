@@ -1,5 +1,5 @@
 -- The costs over the box of the variables.
-use Rattle.std.specs.Prelude.{ℕ, ℤ, pos, ◌+ℤ◌, ◌*ℤ◌, length}
+use Rattle.std.specs.Prelude.{ℤ, pos, ◌+ℤ◌, ◌*ℤ◌, length}
 use Rattle.std.specs.Int.{int_min, int_max}
 use Rattle.path_graph.specs.Sums.{sum_below}
 use Rattle.route_model.specs.declared.parts.Var.{Var}

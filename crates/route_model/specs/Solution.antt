@@ -1,5 +1,5 @@
 -- Plans that are solutions of a model, least ones, and models that have none.
-use Rattle.std.specs.Prelude.{◌≡◌, ℕ, ◌<◌, ◌≤◌, ℤ, pos, ◌≤ℤ◌, List, length, Option, IfSome}
+use Rattle.std.specs.Prelude.{ℕ, ◌<◌, ◌≤◌, ℤ, pos, ◌≤ℤ◌, List, length, Option, IfSome}
 use Rattle.path_graph.specs.Walk.{GraphParts, IsFeasibleWalk}
 use Rattle.route_model.specs.declared.plan.Taken.{Taken}
 use Rattle.route_model.specs.First.{EachBelow}
@@ -30,7 +30,7 @@ IsBetween low high x = IfSome low (λ l. l ≤ℤ x) × IfSome high (λ h. x ≤
 
 -- the sum of a row lies within its sides
 abbrev pub RowHolds : ModelParts → List Taken → ℕ → Type 0
-RowHolds m plan i = IsBetween (row_at m.rows i).low (row_at m.rows i).high (row_sum m plan (row_at m.rows i))
+RowHolds m plan i = IsBetween (row_at m.rows i).low (row_at m.rows i).high (row_sum m plan (row_at m.rows i).terms)
 
 pub record IsSolution (m : ModelParts) (plan : List Taken) : Type 0 where
   pub paths : EachBelow (length plan) (λ i. IsPath m (taken_at plan i))

@@ -1,4 +1,7 @@
-use path_graph::List;
+ghost use Rattle.std.specs.Prelude.{◌≡◌, IfOk};
+
+use path_graph::{List, NoMemory};
+use std::alloc::Global;
 
 /// A walk of a graph, by its arcs from the source to the sink, taken so many times.
 #[derive(Debug, Drop)]
@@ -28,4 +31,33 @@ pub enum Verdict {
     VarBox(u32),
     /// The sum of this row lies outside its sides.
     RowBox(u32),
+}
+
+impl Taken {
+    /// An equal path.
+    pub fn copy(&self, alloc: Global) -> Result<Taken, NoMemory>
+        ensures { IfOk result (λ taken. taken ≡ self.now) }
+    {
+        let arcs = self.arcs.copy(alloc)?;
+        Ok(Taken {
+            graph: self.graph,
+            count: self.count,
+            arcs,
+        })
+    }
+}
+
+impl Plan {
+    /// An equal plan.
+    pub fn copy(&self, alloc: Global) -> Result<Plan, NoMemory>
+        ensures { IfOk result (λ plan. plan ≡ self.now) }
+    {
+        let mut paths = Vec::new(alloc);
+        for taken in self.paths.as_slice() {
+            paths.push(taken.copy(alloc)?)?;
+        }
+        Ok(Plan {
+            paths: List::from_vec(paths),
+        })
+    }
 }
