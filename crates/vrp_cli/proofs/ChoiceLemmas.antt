@@ -8,7 +8,6 @@ use Rattle.std.proofs.lemmas.Bool.{cases_eq}
 use Rattle.std.specs.Prelude.{count_by}
 use Rattle.route_model.specs.Fit.{VarFits}
 use Rattle.route_model.specs.Parts.{ModelParts, var_at, graph_at, maps_in}
-use Rattle.route_model.specs.First.{EachBelow}
 use Rattle.route_model.specs.Quantities.{uses_in, cost_of}
 use Rattle.route_model.specs.Solution.{IsSolution}
 use Rattle.model_text.specs.SmallForm.{IsSmallForm}
@@ -198,7 +197,7 @@ found_after m walks old new form list found s v not_above c =
 -- a value that is not above its box is small
 pub value_small : (m : ModelParts) (values : List ℕ) (j : ℕ) → IsSmallForm m → AreNotAbove m.vars values → j < length m.vars → slice_index values j ≤ 1000000
 value_small m values j form h l =
-    let fits : VarFits (var_at m.vars j) = form.model.fits.each_var j _ l in
+    let fits : VarFits (var_at m.vars j) = form.model.fits.vars.each j _ l in
     let most = fits.high in
     let high = h j l in
     omega (arith, ints, most, high)
@@ -218,7 +217,7 @@ zero_values m values n e k = record {
 
 pub zero_not_above : (m : ModelParts) (values : List ℕ) → IsSmallForm m → AreValuesOf m [] values → AreNotAbove m.vars values
 zero_not_above m values form h j l =
-    let fits : VarFits (var_at m.vars j) = form.model.fits.each_var j _ l in
+    let fits : VarFits (var_at m.vars j) = form.model.fits.vars.each j _ l in
     let low = fits.low in
     let sides = fits.sides in
     let none : ◌≡◌ {A = ℕ} (slice_index values j) 0 = h.each j l in

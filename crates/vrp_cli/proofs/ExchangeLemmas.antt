@@ -5,10 +5,11 @@ use Rattle.std.proofs.lemmas.Bool.{cases_lt}
 use Rattle.std.proofs.lemmas.List.{get_or_default}
 use Rattle.std.proofs.lemmas.List.Sums.{sum_by-cons, sum_by-le}
 use Rattle.std.proofs.lemmas.List.Elements.{All-nil, All-cons}
-use Rattle.path_graph.specs.Walk.{IsGraph, IsFeasibleWalk}
+use Rattle.path_graph.specs.Walk.{IsFeasibleWalk}
 use Rattle.route_model.specs.declared.plan.Taken.{Taken}
 use Rattle.route_model.specs.Parts.{ModelParts, graph_at, taken_at}
 use Rattle.route_model.specs.First.{EachBelow}
+use Rattle.route_model.specs.Fit.{GraphFits}
 use Rattle.route_model.specs.Quantities.{is_of, cost_of}
 use Rattle.route_model.specs.Tidy.{KeepsQuantities, AreFew}
 use Rattle.route_model.specs.Solution.{IsPath, IsSolution, IsLeast, HasNoSolution}
@@ -135,8 +136,8 @@ best_is_least m walks best found form list e h =
 -- a selection has no more walks than a plan may have paths
 pub is_short : (m : ModelParts) (walks : List (List ℕ)) (xs : List ℕ) → IsSmallForm m → IsSelection m walks xs → length xs ≤ 4096
 is_short m walks xs form s =
-    let fits : IsGraph (graph_at m 0) = form.model.fits.each_graph 0 _ (omega (arith, form.one_graph)) in
-    omega (arith, fits.ends_fit.most_paths, s.few)
+    let fits : GraphFits m.sets (graph_at m 0) = form.model.fits.graphs.each 0 _ (omega (arith, form.one_graph)) in
+    omega (arith, fits.graph.ends_fit.most_paths, s.few)
 
 at_most_one : (b : Bool) → ◌≤◌ (cond b 1 0) 1
 at_most_one true = omega arith
