@@ -1,5 +1,5 @@
 -- Steps of the search for the best selection of walks.
-use Rattle.std.proofs.Common.{◌≡◌, ◌≢◌, ℕ, zero, suc, ◌+◌, ◌*◌, ◌<◌, ◌≤◌, ℤ, pos, ◌≤ℤ◌, List, [], ◌∷◌, ◌++◌, length, map, get_or, take, ◌⊎◌, inl, inr, arith, sym, ◌∙◌, ap, subst, refl, All, Option, Some, None, IfSome, slice_index, slice_index_or, append_assoc, replicate, Vec, Global, cond, eqb}
+use Rattle.std.proofs.Common.{◌≡◌, ℕ, suc, ◌+◌, ◌<◌, ◌≤◌, ℤ, List, [], ◌∷◌, ◌++◌, length, get_or, ◌⊎◌, inl, inr, arith, sym, ◌∙◌, ap, subst, refl, All, Option, None, IfSome, slice_index, append_assoc, replicate, Vec, Global, cond, eqb}
 use Rattle.std.proofs.lemmas.Int.{ints}
 use Rattle.std.proofs.lemmas.List.{length_push, get_or_push, take_at, get_or-append-add, length-append, length-replicate, get_or-replicate}
 use Rattle.std.proofs.lemmas.List.Elements.{All-nil, All-push, All-take, All-from_get_or}
@@ -8,17 +8,16 @@ use Rattle.std.proofs.lemmas.Bool.{cases_eq}
 use Rattle.std.specs.Prelude.{count_by}
 use Rattle.route_model.specs.Fit.{VarFits}
 use Rattle.route_model.specs.Parts.{ModelParts, var_at, graph_at, maps_in}
-use Rattle.route_model.specs.First.{EachBelow}
-use Rattle.route_model.specs.Quantities.{uses_in, value_of, cost_of}
+use Rattle.route_model.specs.Quantities.{uses_in, cost_of}
 use Rattle.route_model.specs.Solution.{IsSolution}
 use Rattle.model_text.specs.SmallForm.{IsSmallForm}
 use Rattle.vrp_cli.specs.declared.search.choose.Found.{Found}
 use Rattle.vrp_cli.specs.declared.search.choose.Choice.{Choice}
 use Rattle.vrp_cli.specs.Ahead.{IsAhead, work_left}
 use Rattle.vrp_cli.specs.Partial.{IsWalkList}
-use Rattle.vrp_cli.specs.Values.{uses_by, AreValuesOf, IsNotAbove, AreNotAbove, UsedAreNotAbove, ValuesSolve, cost_at}
+use Rattle.vrp_cli.specs.Values.{uses_by, HasAtLeast, AreValuesOf, IsNotAbove, AreNotAbove, UsedAreNotAbove, ValuesSolve, cost_at}
 use Rattle.vrp_cli.specs.Selection.{plan_of, IsSelection, IsRisingFrom, IsFound, IsAtMost, IsChoice, IsChoiceOf, choice_left, IsBest, Considers, AddsWalk}
-use Rattle.vrp_cli.proofs.AheadLemmas.{GoesBy, GoesOver, ahead_next, ahead_deeper, ahead_longer, ahead_back, left_skips, left_deeper, left_back}
+use Rattle.vrp_cli.proofs.AheadLemmas.{GoesOver, ahead_next, ahead_deeper, ahead_longer, ahead_back, left_deeper, left_back}
 use Rattle.vrp_cli.proofs.PlanLemmas.{quantity_more, other_counts, are_maps, walk_has_maps, value_of-push, solves, passes_if_solves, cost_at-same}
 
 -- values with a walk more, and with one less
@@ -34,8 +33,10 @@ values_pop m walks xs i old new form h a = record {
   each = λ j l. omega (arith, a.each j l, h.each j l, value_of-push m walks xs i j form);
 }
 
-pub has_walk : (m : ModelParts) (walks : List (List ℕ)) (xs : List ℕ) (i : ℕ) (values : List ℕ) → IsSmallForm m → AreValuesOf m (plan_of walks (xs ++ i ∷ [])) values → EachBelow (length m.vars) (λ j. uses_by (maps_in m.maps 0) j (get_or walks i []) ≤ slice_index values j)
-has_walk m walks xs i values form h j l = omega (arith, h.each j l, value_of-push m walks xs i j form)
+pub has_walk : (m : ModelParts) (walks : List (List ℕ)) (xs : List ℕ) (i : ℕ) (values : List ℕ) → IsSmallForm m → AreValuesOf m (plan_of walks (xs ++ i ∷ [])) values → HasAtLeast (λ j. uses_by (maps_in m.maps 0) j (get_or walks i [])) values
+has_walk m walks xs i values form h j l =
+    let within : j < length m.vars = omega (arith, h.count) in
+    omega (arith, h.each j within, value_of-push m walks xs i j form)
 
 not_above_less : (m : ModelParts) (walks : List (List ℕ)) (i : ℕ) (old new : List ℕ) → AreNotAbove m.vars old → AddsWalk m walks i new old → AreNotAbove m.vars new
 not_above_less m walks i old new h a j l = let high = h j l in let more = a.each j l in omega (arith, ints, high, more)
@@ -196,7 +197,7 @@ found_after m walks old new form list found s v not_above c =
 -- a value that is not above its box is small
 pub value_small : (m : ModelParts) (values : List ℕ) (j : ℕ) → IsSmallForm m → AreNotAbove m.vars values → j < length m.vars → slice_index values j ≤ 1000000
 value_small m values j form h l =
-    let fits : VarFits (var_at m.vars j) = form.model.fits.each_var j _ l in
+    let fits : VarFits (var_at m.vars j) = form.model.fits.vars.each j _ l in
     let most = fits.high in
     let high = h j l in
     omega (arith, ints, most, high)
@@ -216,7 +217,7 @@ zero_values m values n e k = record {
 
 pub zero_not_above : (m : ModelParts) (values : List ℕ) → IsSmallForm m → AreValuesOf m [] values → AreNotAbove m.vars values
 zero_not_above m values form h j l =
-    let fits : VarFits (var_at m.vars j) = form.model.fits.each_var j _ l in
+    let fits : VarFits (var_at m.vars j) = form.model.fits.vars.each j _ l in
     let low = fits.low in
     let sides = fits.sides in
     let none : ◌≡◌ {A = ℕ} (slice_index values j) 0 = h.each j l in

@@ -1,22 +1,22 @@
 -- Each solution has the quantities of a rising selection, so the best selection is a least solution.
-use Rattle.std.proofs.Common.{◌≡◌, ℕ, zero, suc, ◌+◌, ◌*◌, ◌<◌, ◌≤◌, ◌^◌, ◌-◌, ℤ, ◌≤ℤ◌, List, [], ◌∷◌, length, get_or, ◌⊎◌, inl, inr, arith, sym, ◌∙◌, ap, subst, refl, All, Contains, Option, Some, None, IfSome, Bool, true, false, cond, eqb}
+use Rattle.std.proofs.Common.{◌≡◌, ℕ, zero, suc, ◌+◌, ◌*◌, ◌<◌, ◌≤◌, ℤ, ◌≤ℤ◌, List, [], ◌∷◌, length, get_or, inl, inr, arith, sym, ◌∙◌, ap, subst, refl, All, Option, Some, None, IfSome, Bool, true, false, cond, eqb}
 use Rattle.std.specs.Prelude.{sum_by}
 use Rattle.std.proofs.lemmas.Bool.{cases_lt}
-use Rattle.std.proofs.lemmas.List.{get_or_default, length-map}
+use Rattle.std.proofs.lemmas.List.{get_or_default}
 use Rattle.std.proofs.lemmas.List.Sums.{sum_by-cons, sum_by-le}
-use Rattle.std.proofs.lemmas.List.Elements.{All-nil, All-cons, All-map}
-use Rattle.path_graph.specs.Walk.{GraphParts, IsGraph, IsFeasibleWalk}
+use Rattle.std.proofs.lemmas.List.Elements.{All-nil, All-cons}
+use Rattle.path_graph.specs.Walk.{IsFeasibleWalk}
 use Rattle.route_model.specs.declared.plan.Taken.{Taken}
 use Rattle.route_model.specs.Parts.{ModelParts, graph_at, taken_at}
 use Rattle.route_model.specs.First.{EachBelow}
-use Rattle.route_model.specs.Quantities.{quantity, is_of, cost_of}
+use Rattle.route_model.specs.Fit.{GraphFits}
+use Rattle.route_model.specs.Quantities.{is_of, cost_of}
 use Rattle.route_model.specs.Tidy.{KeepsQuantities, AreFew}
-use Rattle.route_model.specs.Verdicts.{IsCounted}
 use Rattle.route_model.specs.Solution.{IsPath, IsSolution, IsLeast, HasNoSolution}
 use Rattle.model_text.specs.SmallForm.{IsSmallForm}
 use Rattle.vrp_cli.specs.declared.search.choose.Found.{Found}
 use Rattle.vrp_cli.specs.Partial.{IsWalkList}
-use Rattle.vrp_cli.specs.Selection.{taken_once, plan_of, IsSelection, IsRisingFrom, IsFound, IsAtMost, IsBest}
+use Rattle.vrp_cli.specs.Selection.{plan_of, IsSelection, IsRisingFrom, IsFound, IsAtMost, IsBest}
 use Rattle.vrp_cli.proofs.PlanLemmas.{quantity-plan_of, paths_of-plan_of, selected_path, solution_kept, cost_kept}
 
 -- a rising list of numbers below n that has what xs has, and the number i so many times more
@@ -120,37 +120,31 @@ none_solves m walks best form list e h plan s =
     let x = exchanges m walks plan form list s in
     subst (λ (b : Option Found). IsAtMost b (cost_of m (plan_of walks x.xs))) e (h.least x.xs x.rising x.selection x.solution)
 
-pub best_is_least : (m : ModelParts) (walks : List (List ℕ)) (best : Option Found) (found : Found) (plan : List Taken) → IsSmallForm m → IsWalkList (graph_at m 0) walks → best ≡ Some found → IsBest m walks best → plan ≡ plan_of walks found.chosen → IsLeast m plan × (found.cost ≡ cost_of m plan)
-best_is_least m walks best found plan form list e h p =
-    let is : IsFound m walks found = subst (λ (b : Option Found). IfSome b (IsFound m walks)) e h.found in
-    let least : IsLeast m (plan_of walks found.chosen) = record {
-      solution = is.solution;
-      least = λ other s.
-          let x = exchanges m walks other form list s in
-          let le : found.cost ≤ℤ cost_of m (plan_of walks x.xs) = subst (λ (b : Option Found). IsAtMost b (cost_of m (plan_of walks x.xs))) e (h.least x.xs x.rising x.selection x.solution) in
-          subst (λ (c : ℤ). c ≤ℤ (cost_of m other)) is.costs (subst (λ (c : ℤ). found.cost ≤ℤ c) x.costs le);
-    } in
-    subst (λ (q : List Taken). IsLeast m q × (found.cost ≡ cost_of m q)) (sym p) (least, is.costs)
+pub best_is_least : (m : ModelParts) (walks : List (List ℕ)) (best : Option Found) (found : Found) → IsSmallForm m → IsWalkList (graph_at m 0) walks → best ≡ Some found → IsBest m walks best → IsLeast m (plan_of walks found.chosen) × (found.cost ≡ cost_of m (plan_of walks found.chosen))
+best_is_least m walks best found form list e h =
+    let is : IsFound m walks found = subst (λ (b : Option Found). IfSome b (IsFound m walks)) e h.found in (
+      record {
+        solution = is.solution;
+        least = λ other s.
+            let x = exchanges m walks other form list s in
+            let le : found.cost ≤ℤ cost_of m (plan_of walks x.xs) = subst (λ (b : Option Found). IsAtMost b (cost_of m (plan_of walks x.xs))) e (h.least x.xs x.rising x.selection x.solution) in
+            subst (λ (c : ℤ). c ≤ℤ (cost_of m other)) is.costs (subst (λ (c : ℤ). found.cost ≤ℤ c) x.costs le);
+      },
+      is.costs,
+    )
 
--- the plan of a selection can be judged and tidied
-pub is_counted : (m : ModelParts) (walks : List (List ℕ)) (xs : List ℕ) → IsSmallForm m → IsSelection m walks xs → IsCounted (plan_of walks xs)
-is_counted m walks xs form s =
-    let len = length-map xs (taken_once walks) in
-    let fits : IsGraph (graph_at m 0) = form.model.fits.each_graph 0 _ (omega (arith, form.one_graph)) in
-    let most = fits.ends_fit.most_paths in
-    record {
-      few = omega (arith, len, most, s.few);
-      each = All-map (λ (t : Taken). t.count ≤ 4096) (taken_once walks) xs (λ k d l. omega arith);
-    }
+-- a selection has no more walks than a plan may have paths
+pub is_short : (m : ModelParts) (walks : List (List ℕ)) (xs : List ℕ) → IsSmallForm m → IsSelection m walks xs → length xs ≤ 4096
+is_short m walks xs form s =
+    let fits : GraphFits m.sets (graph_at m 0) = form.model.fits.graphs.each 0 _ (omega (arith, form.one_graph)) in
+    omega (arith, fits.graph.ends_fit.most_paths, s.few)
 
 at_most_one : (b : Bool) → ◌≤◌ (cond b 1 0) 1
 at_most_one true = omega arith
 at_most_one false = omega arith
 
-pub are_few : (m : ModelParts) (walks : List (List ℕ)) (xs : List ℕ) → IsSmallForm m → IsSelection m walks xs → AreFew (plan_of walks xs)
-are_few m walks xs form s g =
-    let fits : IsGraph (graph_at m 0) = form.model.fits.each_graph 0 _ (omega (arith, form.one_graph)) in
-    let most = fits.ends_fit.most_paths in
+pub are_few : (walks : List (List ℕ)) (xs : List ℕ) → length xs ≤ 4096 → AreFew (plan_of walks xs)
+are_few walks xs l g =
     let sums = quantity-plan_of (is_of g) walks xs in
-    let le = sum_by-le (λ (i : ℕ). is_of g 0 (get_or walks i [])) 1 xs (λ k d l. at_most_one (eqb 0 g)) in
-    omega (arith, most, sums, le, s.few)
+    let le = sum_by-le (λ (i : ℕ). is_of g 0 (get_or walks i [])) 1 xs (λ k d b. at_most_one (eqb 0 g)) in
+    omega (arith, sums, le)

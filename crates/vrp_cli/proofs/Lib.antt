@@ -6,3 +6,4 @@ pub mod PlanLemmas
 pub mod ChoiceLemmas
 pub mod ExchangeLemmas
 pub mod EndingLemmas
+pub mod MergeLemmas

@@ -1,21 +1,20 @@
 -- Steps of the search that lists the feasible walks.
-use Rattle.std.proofs.Common.{◌≡◌, ◌≢◌, ℕ, zero, suc, ◌+◌, ◌-◌, ◌<◌, ◌≤◌, ℤ, pos, neg_ℤ, ◌+ℤ◌, ◌≤ℤ◌, List, [], ◌∷◌, ◌++◌, length, get_or, ◌⊎◌, inl, inr, arith, sym, ◌∙◌, ap, subst, refl, All, Contains, slice_get, Some}
+use Rattle.std.proofs.Common.{◌≡◌, ◌≢◌, ℕ, zero, suc, ◌+◌, ◌-◌, ◌<◌, ◌≤◌, ℤ, pos, ◌+ℤ◌, ◌≤ℤ◌, List, [], ◌∷◌, ◌++◌, length, get_or, inl, inr, arith, sym, ◌∙◌, ap, subst, refl, All, Contains, slice_get, Some}
 use Rattle.std.proofs.lemmas.Int.{ints, clamps}
 use Rattle.std.specs.Int.{int_max}
 use Rattle.std.proofs.lemmas.Bool.{cases_lt}
 use Rattle.std.proofs.lemmas.Option.{get_or_from_slice_get, slice_get_within}
 use Rattle.std.proofs.lemmas.List.{length_push, same_from_push, get_or_append_left, get_or_push}
-use Rattle.std.proofs.lemmas.List.Elements.{All-nil, All-cons, All-push, All-weaker, All-contains, Contains-append_left, Contains-push}
-use Rattle.path_graph.specs.declared.parts.GraphArc.{GraphArc}
+use Rattle.std.proofs.lemmas.List.Elements.{All-nil, All-cons, All-push, All-weaker, Contains-append_left, Contains-push}
 use Rattle.path_graph.specs.declared.parts.Values.{Values}
-use Rattle.path_graph.specs.Fit.{int_at, window_at, vertex_at, ArcFits}
-use Rattle.path_graph.specs.Walk.{GraphParts, IsGraph, arc_at, Leads, Passes, Takes, over_of, root_of, moved, IsFeasibleWalk}
-use Rattle.path_graph.specs.Within.{AreWithin, ConsumesBeforeSink, IsInLimits}
+use Rattle.path_graph.specs.Fit.{int_at, window_at, vertex_at}
+use Rattle.path_graph.specs.Walk.{GraphParts, IsGraph, arc_at, Leads, Passes, over_of, root_of, IsFeasibleWalk}
+use Rattle.path_graph.specs.Within.{AreWithin, ConsumesBeforeSink}
 use Rattle.path_graph.proofs.WalkLemmas.{moved_is_within, root_is_within, small_values}
 use Rattle.vrp_cli.specs.declared.search.walks.Listing.{Listing}
 use Rattle.vrp_cli.specs.Ahead.{IsAhead, work_left, walk_depth}
 use Rattle.vrp_cli.specs.Partial.{end_of, values_at_end, values_along, IsPartialWalk, GoesOn, IsListing, IsListingOf, IsWalkList, TakesBack}
-use Rattle.vrp_cli.proofs.AheadLemmas.{GoesBy, GoesOver, ahead_next, ahead_before, ahead_deeper, ahead_longer, ahead_shallower, ahead_itself, not_ahead_itself, ahead_back, left_back}
+use Rattle.vrp_cli.proofs.AheadLemmas.{ahead_next, ahead_before, ahead_deeper, ahead_longer, ahead_shallower, ahead_itself, not_ahead_itself, ahead_back, left_back}
 
 -- arcs one after another
 pub leads_split : (g : GraphParts) (v : ℕ) (xs ys : List ℕ) (w : ℕ) → Leads g v (xs ++ ys) w → Leads g v xs (end_of g v xs) × Leads g (end_of g v xs) ys w

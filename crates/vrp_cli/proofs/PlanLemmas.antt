@@ -1,5 +1,5 @@
 -- Quantities of the plan of a selection, and which selections are solutions.
-use Rattle.std.proofs.Common.{◌≡◌, ◌≢◌, ℕ, zero, suc, ◌+◌, ◌*◌, ◌<◌, ◌≤◌, ℤ, pos, ◌*ℤ◌, ◌≤ℤ◌, List, [], ◌∷◌, ◌++◌, length, map, get_or, ◌⊎◌, inl, inr, arith, sym, ◌∙◌, ap, subst, refl, All, Bool, true, false, cond, ◌||◌, eqb, slice_index, slice_index_or}
+use Rattle.std.proofs.Common.{◌≡◌, ◌≢◌, ℕ, suc, ◌+◌, ◌*◌, ◌<◌, ◌≤◌, pos, ◌*ℤ◌, ◌≤ℤ◌, List, [], ◌∷◌, ◌++◌, length, get_or, inl, inr, arith, sym, ◌∙◌, ap, subst, refl, All, Bool, true, false, cond, ◌||◌, eqb, slice_index}
 use Rattle.std.specs.Prelude.{sum_by, count_by}
 use Rattle.std.specs.List.{list_any}
 use Rattle.std.specs.List.Sorted.{IsStrictlyIncreasing}
@@ -8,19 +8,18 @@ use Rattle.std.proofs.lemmas.Bool.Decides.{nat_tests}
 use Rattle.std.proofs.lemmas.List.{get_or_past, get_or-map, length-map}
 use Rattle.std.proofs.lemmas.List.Sums.{sum_by-cons, sum_by-append, sum_by_push, sum_by-le-sum_by, count_by-le-length}
 use Rattle.std.proofs.lemmas.List.Elements.{All-weaker}
-use Rattle.path_graph.specs.Walk.{GraphParts, IsFeasibleWalk}
 use Rattle.path_graph.proofs.SumLemmas.{sum_below-same}
 use Rattle.route_model.specs.declared.plan.Taken.{Taken}
-use Rattle.route_model.specs.declared.parts.Row.{Row}
+use Rattle.route_model.specs.declared.parts.RowTerm.{RowTerm}
 use Rattle.route_model.specs.Parts.{ModelParts, var_at, row_at, term_at, graph_at, graph_in, maps_in, mapped_vars, taken_at}
 use Rattle.route_model.specs.First.{EachBelow}
-use Rattle.route_model.specs.Fit.{ModelFits, GraphMapsFit, MapFits, RowFits, TermFits}
-use Rattle.route_model.specs.Quantities.{quantity, is_mapped, uses_in, value_of, visits_in, visits_of, is_of, paths_of, row_sum, cost_of}
+use Rattle.route_model.specs.Fit.{GraphMapsFit, MapFits, RowFits}
+use Rattle.route_model.specs.Quantities.{quantity, is_mapped, uses_in, value_of, visits_in, is_of, paths_of, row_sum, cost_of}
 use Rattle.route_model.specs.Tidy.{KeepsQuantities}
-use Rattle.route_model.specs.Solution.{IsPath, CountFits, SetFits, InBox, IsBetween, RowHolds, IsSolution}
+use Rattle.route_model.specs.Solution.{IsPath, CountFits, IsBetween, IsSolution}
 use Rattle.model_text.specs.SmallForm.{IsSmallForm}
-use Rattle.vrp_cli.specs.Partial.{end_of, IsWalkList}
-use Rattle.vrp_cli.specs.Values.{uses_by, AreMaps, AreValuesOf, AreNotAbove, AreNotBelow, terms_sum_at, cost_at, RowHoldsAt, ValuesSolve}
+use Rattle.vrp_cli.specs.Partial.{IsWalkList}
+use Rattle.vrp_cli.specs.Values.{uses_by, AreMaps, AreValuesOf, AreNotAbove, terms_sum_at, cost_at, ValuesSolve}
 use Rattle.vrp_cli.specs.Selection.{taken_once, plan_of, IsSelection}
 use Rattle.vrp_cli.proofs.PartialLemmas.{leads_below}
 
@@ -93,12 +92,12 @@ count_any j (x ∷ xs) h =
 
 -- the maps of the one graph of a model
 pub graph_maps : (m : ModelParts) → IsSmallForm m → GraphMapsFit (length m.vars) (graph_at m 0) (maps_in m.maps 0)
-graph_maps m form = form.model.fits.each_maps 0 (omega (arith, form.one_graph))
+graph_maps m form = form.model.fits.maps.each 0 (omega (arith, form.one_graph))
 
 mapped_rise : (m : ModelParts) (a : ℕ) → IsSmallForm m → IsStrictlyIncreasing (mapped_vars m.maps 0 a)
 mapped_rise m a form =
     elim (cases_lt a (length (maps_in m.maps 0))) [
-      | inl l ↦ let fits : MapFits (length m.vars) (mapped_vars m.maps 0 a) = (graph_maps m form).each a [] l in fits.ascend
+      | inl l ↦ let fits : MapFits (length m.vars) (mapped_vars m.maps 0 a) = (graph_maps m form).each a [] l in (λ k b. fits.ascend k 0 b)
       | inr l ↦ let none : mapped_vars m.maps 0 a ≡ [] = get_or_past (maps_in m.maps 0) a [] l in
           subst (λ (vs : List ℕ). IsStrictlyIncreasing vs) (sym none) (λ k b. absurd (omega arith))
     ]
@@ -149,12 +148,12 @@ cost_at-same m walks xs values h =
     sum_below-same (length m.vars) (λ j. (var_at m.vars j).cost *ℤ pos (slice_index values j)) (λ j. (var_at m.vars j).cost *ℤ pos (value_of m (plan_of walks xs) j))
     (λ j l. ap (λ (n : ℕ). (var_at m.vars j).cost *ℤ pos n) (h.each j l))
 
-row_same : (m : ModelParts) (walks : List (List ℕ)) (xs values : List ℕ) (i : ℕ) → IsSmallForm m → i < length m.rows → AreValuesOf m (plan_of walks xs) values → terms_sum_at values (row_at m.rows i).terms ≡ row_sum m (plan_of walks xs) (row_at m.rows i)
+row_same : (m : ModelParts) (walks : List (List ℕ)) (xs values : List ℕ) (i : ℕ) → IsSmallForm m → i < length m.rows → AreValuesOf m (plan_of walks xs) values → terms_sum_at values (row_at m.rows i).terms ≡ row_sum m (plan_of walks xs) (row_at m.rows i).terms
 row_same m walks xs values i form l h =
     let row = row_at m.rows i in
-    let fits : RowFits (length m.vars) row = form.model.fits.each_row i _ l in
+    let fits : RowFits (length m.vars) row = form.model.fits.rows.each i _ l in
     sum_below-same (length row.terms) (λ k. (term_at row.terms k).coef *ℤ pos (slice_index values (term_at row.terms k).var)) (λ k. (term_at row.terms k).coef *ℤ pos (value_of m (plan_of walks xs) (term_at row.terms k).var))
-    (λ k b. ap (λ (n : ℕ). (term_at row.terms k).coef *ℤ pos n) (h.each (term_at row.terms k).var (fits.terms k _ b).var))
+    (λ k b. ap (λ (n : ℕ). (term_at row.terms k).coef *ℤ pos n) (h.each (term_at row.terms k).var (fits.each k _ b).var))
 
 -- a selection whose values pass is a solution, and the other way round
 pub solves : (m : ModelParts) (walks : List (List ℕ)) (xs values : List ℕ) → IsSmallForm m → IsWalkList (graph_at m 0) walks → IsSelection m walks xs → AreValuesOf m (plan_of walks xs) values → AreNotAbove m.vars values → ValuesSolve m (length xs) values → IsSolution m (plan_of walks xs)
@@ -186,16 +185,16 @@ cost_kept m old new keeps =
     sum_below-same (length m.vars) (λ j. (var_at m.vars j).cost *ℤ pos (value_of m new j)) (λ j. (var_at m.vars j).cost *ℤ pos (value_of m old j))
     (λ j l. ap (λ (n : ℕ). (var_at m.vars j).cost *ℤ pos n) (keeps (uses_in m.maps j)))
 
-row_kept : (m : ModelParts) (old new : List Taken) (row : Row) → KeepsQuantities old new → row_sum m new row ≡ row_sum m old row
-row_kept m old new row keeps =
-    sum_below-same (length row.terms) (λ k. (term_at row.terms k).coef *ℤ pos (value_of m new (term_at row.terms k).var)) (λ k. (term_at row.terms k).coef *ℤ pos (value_of m old (term_at row.terms k).var))
-    (λ k l. ap (λ (n : ℕ). (term_at row.terms k).coef *ℤ pos n) (keeps (uses_in m.maps (term_at row.terms k).var)))
+row_kept : (m : ModelParts) (old new : List Taken) (terms : List RowTerm) → KeepsQuantities old new → row_sum m new terms ≡ row_sum m old terms
+row_kept m old new terms keeps =
+    sum_below-same (length terms) (λ k. (term_at terms k).coef *ℤ pos (value_of m new (term_at terms k).var)) (λ k. (term_at terms k).coef *ℤ pos (value_of m old (term_at terms k).var))
+    (λ k l. ap (λ (n : ℕ). (term_at terms k).coef *ℤ pos n) (keeps (uses_in m.maps (term_at terms k).var)))
 
 pub solution_kept : (m : ModelParts) (old new : List Taken) → KeepsQuantities old new → EachBelow (length new) (λ k. IsPath m (taken_at new k)) → IsSolution m old → IsSolution m new
 solution_kept m old new keeps paths s = record {
   paths = paths;
   counts = λ g l. subst (λ (n : ℕ). ((graph_in m.graphs g).ends.low ≤ n) × (n ≤ (graph_in m.graphs g).ends.high)) (sym (keeps (is_of g))) (s.counts g l);
-  sets = λ i l. subst (λ (n : ℕ). n ≤ 1) (sym (keeps (visits_in m i))) (s.sets i l);
+  sets = λ i l. subst (λ (n : ℕ). n ≤ 1) (sym (keeps (visits_in m.graphs i))) (s.sets i l);
   vars = λ j l. subst (λ (n : ℕ). ((var_at m.vars j).low ≤ℤ (pos n)) × ((pos n) ≤ℤ (var_at m.vars j).high)) (sym (keeps (uses_in m.maps j))) (s.vars j l);
-  rows = λ i l. subst (IsBetween (row_at m.rows i).low (row_at m.rows i).high) (sym (row_kept m old new (row_at m.rows i) keeps)) (s.rows i l);
+  rows = λ i l. subst (IsBetween (row_at m.rows i).low (row_at m.rows i).high) (sym (row_kept m old new (row_at m.rows i).terms keeps)) (s.rows i l);
 }

@@ -10,7 +10,8 @@ IsAhead (a ∷ chosen) next (b ∷ rest) = (a < b) ⊎ ((a ≡ b) × IsAhead cho
 -- more than the steps that are left, with numbers below n and no more than `depth` of them
 abbrev pub work_left : ℕ → ℕ → List ℕ → ℕ → ℕ
 work_left n depth [] next = ((n + 1) - next) * (n + 2) ^ depth
-work_left n depth (a ∷ chosen) next = (n - a) * (n + 2) ^ depth + work_left n (depth - 1) chosen next
+work_left n depth (a ∷ chosen) next =
+    (n - a) * (n + 2) ^ depth + work_left n (depth - 1) chosen next
 
 -- more arcs than a partial walk has
 unfoldable pub walk_depth : ℕ

@@ -3,7 +3,7 @@ ghost use Rattle.std.specs.Int.{w64};
 ghost use Rattle.route_model.specs.First.{EachBelow};
 ghost use Rattle.route_model.specs.Fit.{VarFits, TermFits, RowFits, cost_range};
 ghost use Rattle.route_model.specs.Solution.{IsBetween};
-ghost use Rattle.vrp_cli.specs.Values.{uses_by, AreMaps, AreNotAboveAmong, UsedAreNotAbove, AreNotAbove, AreNotBelow, terms_sum_at, cost_at, RowHoldsAt};
+ghost use Rattle.vrp_cli.specs.Values.{uses_by, times_in, HasRoomFor, HasAtLeast, GrowsBy, ShrinksBy, AreMaps, AreNotAboveAmong, UsedAreNotAbove, AreNotAbove, AreNotBelow, terms_sum_at, cost_at, RowHoldsAt};
 
 use path_graph::List;
 use route_model::{Row, RowTerm, Var};
@@ -11,8 +11,8 @@ use route_model::{Row, RowTerm, Var};
 /// Adds what an arc uses to the values of the variables.
 fn add_arc(values: &mut [u64], vars: &[u32])
     requires vars { All (λ j. j < length values.old) vars.now }
-    requires room { (j : ℕ) → j < length values.old → slice_index values.old j + count_by (λ i. i == j) vars.now < 2 ^ 64 }
-    ensures { (j : ℕ) → j < length values.old → slice_index values.new j ≡ slice_index values.old j + count_by (λ i. i == j) vars.now }
+    requires room { HasRoomFor (times_in vars.now) values.old }
+    ensures { GrowsBy (times_in vars.now) values.old values.new }
 {
     for var in vars {
         values[*var as usize] += 1;
@@ -23,8 +23,8 @@ fn add_arc(values: &mut [u64], vars: &[u32])
 pub(super) fn add_walk(values: &mut [u64], maps: &List<List<u32>>, arcs: &[u32])
     requires arcs { All (λ a. a < length maps.now) arcs.now }
     requires maps { AreMaps (length values.old) maps.now }
-    requires room { (j : ℕ) → j < length values.old → slice_index values.old j + uses_by maps.now j arcs.now < 2 ^ 64 }
-    ensures { (j : ℕ) → j < length values.old → slice_index values.new j ≡ slice_index values.old j + uses_by maps.now j arcs.now }
+    requires room { HasRoomFor (λ j. uses_by maps.now j arcs.now) values.old }
+    ensures { GrowsBy (λ j. uses_by maps.now j arcs.now) values.old values.new }
 {
     for arc in arcs {
         add_arc(values, maps.at(*arc as usize).as_slice());
@@ -34,8 +34,8 @@ pub(super) fn add_walk(values: &mut [u64], maps: &List<List<u32>>, arcs: &[u32])
 /// Takes what an arc uses from the values of the variables.
 fn remove_arc(values: &mut [u64], vars: &[u32])
     requires vars { All (λ j. j < length values.old) vars.now }
-    requires enough { (j : ℕ) → j < length values.old → count_by (λ i. i == j) vars.now ≤ slice_index values.old j }
-    ensures { (j : ℕ) → j < length values.old → slice_index values.new j + count_by (λ i. i == j) vars.now ≡ slice_index values.old j }
+    requires enough { HasAtLeast (times_in vars.now) values.old }
+    ensures { ShrinksBy (times_in vars.now) values.old values.new }
 {
     for var in vars {
         values[*var as usize] -= 1;
@@ -46,8 +46,8 @@ fn remove_arc(values: &mut [u64], vars: &[u32])
 pub(super) fn remove_walk(values: &mut [u64], maps: &List<List<u32>>, arcs: &[u32])
     requires arcs { All (λ a. a < length maps.now) arcs.now }
     requires maps { AreMaps (length values.old) maps.now }
-    requires enough { (j : ℕ) → j < length values.old → uses_by maps.now j arcs.now ≤ slice_index values.old j }
-    ensures { (j : ℕ) → j < length values.old → slice_index values.new j + uses_by maps.now j arcs.now ≡ slice_index values.old j }
+    requires enough { HasAtLeast (λ j. uses_by maps.now j arcs.now) values.old }
+    ensures { ShrinksBy (λ j. uses_by maps.now j arcs.now) values.old values.new }
 {
     for arc in arcs {
         remove_arc(values, maps.at(*arc as usize).as_slice());

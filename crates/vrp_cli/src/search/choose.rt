@@ -7,8 +7,8 @@ ghost use Rattle.route_model.specs.Tidy.{AreFew};
 ghost use Rattle.route_model.specs.Verdicts.{IsCounted};
 ghost use Rattle.model_text.specs.SmallForm.{IsSmallForm};
 ghost use Rattle.vrp_cli.specs.Partial.{IsWalkList};
-ghost use Rattle.vrp_cli.specs.Values.{uses_by, AreNotAbove, UsedAreNotAbove, ValuesSolve};
-ghost use Rattle.vrp_cli.specs.Selection.{plan_of, IsFound, IsAtMost, IsChoiceOf, choice_left, IsBest, Considers, AddsWalk};
+ghost use Rattle.vrp_cli.specs.Values.{uses_by, HasAtLeast, AreNotAbove, UsedAreNotAbove, ValuesSolve};
+ghost use Rattle.vrp_cli.specs.Selection.{IsFound, IsAtMost, IsChoiceOf, choice_left, IsBest, Considers, AddsWalk, IsMerged};
 
 use crate::search::checks::{add_walk, are_above, cost, remove_walk, rows_hold, walk_fits};
 use crate::search::walks::list_walks;
@@ -127,8 +127,8 @@ fn remove(model: &Model, walks: &List<List<u32>>, i: usize, values: &mut Vec<u64
     requires walks { IsWalkList (graph_at model.now 0) walks.now }
     requires i { i < length walks.now }
     requires values { length values.old.items ≡ length model.now.vars }
-    requires enough { EachBelow (length model.now.vars) (λ j.
-        uses_by (maps_in model.now.maps 0) j (slice_index_or walks.now i []) ≤ slice_index values.old.items j) }
+    requires enough { let walk = slice_index_or walks.now i [] in
+        HasAtLeast (λ j. uses_by (maps_in model.now.maps 0) j walk) values.old.items }
     ensures { AddsWalk model.now walks.now i values.new.items values.old.items }
 {
     remove_walk(
@@ -242,18 +242,35 @@ fn best_choice(
     Ok(choice.best)
 }
 
-/// The plan of chosen walks.
+/// Whether the number at the next place is the same.
+fn goes_on(chosen: &[usize], place: usize) -> bool
+    requires { place < length chosen.now }
+    ensures { IsTrue result ↔ ((place + 1 < length chosen.now)
+        × (slice_index chosen.now (place + 1) ≡ slice_index chosen.now place)) }
+{
+    place + 1 < chosen.len() && chosen[place + 1] == chosen[place]
+}
+
+/// The plan of chosen walks. A walk that is chosen several times in a row is one path with a count.
 fn plan_of(alloc: Global, walks: &List<List<u32>>, chosen: &[usize]) -> Result<Plan, NoMemory>
-    requires { All (λ i. i < length walks.now) chosen.now }
-    ensures { IfOk result (λ plan. plan.paths ≡ plan_of walks.now chosen.now) }
+    requires numbers { All (λ i. i < length walks.now) chosen.now }
+    requires few { length chosen.now ≤ 4096 }
+    ensures { IfOk result (λ plan. IsMerged walks.now chosen.now plan.paths) }
 {
     let mut paths = List::new(alloc);
-    for i in chosen {
+    let mut count = 0;
+    for (place, i) in chosen.iter().enumerate() {
+        count += 1;
+        if goes_on(chosen, place) {
+            continue;
+        }
+        let arcs = walks.at(*i).copy(alloc)?;
         paths.push(Taken {
             graph: 0,
-            count: 1,
-            arcs: walks.at(*i).copy(alloc)?,
+            count,
+            arcs,
         })?;
+        count = 0;
     }
     Ok(Plan { paths })
 }

@@ -1,16 +1,15 @@
 ghost use Rattle.std.specs.Prelude.{◌≡◌, ◌<◌, ◌+◌, ◌-◌, ◌^◌, ◌≤◌, [], ◌∷◌, ◌++◌, All, length, IfOk, OnOk, SomeIff, MatchBool, vec_len};
 ghost use Rattle.path_graph.specs.Walk.{IsGraph, root_of, over_of};
 ghost use Rattle.path_graph.specs.Within.{ConsumesBeforeSink};
-ghost use Rattle.vrp_cli.specs.Ahead.{work_left, walk_depth};
-ghost use Rattle.vrp_cli.specs.Partial.{end_of, values_at_end, GoesOn, IsListingOf, IsWalkList, TakesBack};
+ghost use Rattle.vrp_cli.specs.Partial.{end_of, values_at_end, GoesOn, IsListingOf, listing_left, IsWalkList, TakesBack};
 
 use path_graph::{Graph, List, NoMemory, Values, after, root_values};
 use std::alloc::Global;
 
 /// A depth-first search for feasible walks: the walks found so far, and a partial walk.
 ///
-/// The search goes on from the partial walk by its next arc. `values` has the values at each vertex of the
-/// partial walk, the source included.
+/// The search goes on from the partial walk by its next arc. `values` has the values at each vertex
+/// of the partial walk, the source included.
 #[derive(Drop)]
 struct Listing {
     arcs: Vec<u32>,
@@ -50,7 +49,8 @@ fn values_over(g: &Graph, listing: &Listing) -> Option<Values>
     requires listing { IsListingOf g.now listing.now }
     requires next { listing.now.next < length g.now.arcs }
     ensures { SomeIff result (GoesOn g.now listing.now.arcs.items listing.now.next)
-        (over_of g.now (values_at_end g.now (root_of g.now) listing.now.arcs.items) listing.now.next) }
+        (over_of g.now (values_at_end g.now (root_of g.now) listing.now.arcs.items)
+        listing.now.next) }
 {
     if g.arc(listing.next).tail != end_of(g, listing.arcs.as_slice()) {
         return None;
@@ -62,7 +62,10 @@ fn values_over(g: &Graph, listing: &Listing) -> Option<Values>
 fn finish(alloc: Global, listing: &mut Listing) -> Result<(), NoMemory>
     requires { listing.old.next < 2 ^ 32 - 1 }
     ensures { let walk = listing.old.arcs.items ++ listing.old.next ∷ [] in
-        OnOk result (listing.new ≡ record listing.old { next = listing.old.next + 1; walks = listing.old.walks ++ walk ∷ [] }) }
+        OnOk result (listing.new ≡ record listing.old {
+          next = listing.old.next + 1;
+          walks = listing.old.walks ++ walk ∷ [];
+        }) }
 {
     let mut arcs = Vec::from_slice(alloc, listing.arcs.as_slice())?;
     arcs.push(listing.next)?;
@@ -73,8 +76,10 @@ fn finish(alloc: Global, listing: &mut Listing) -> Result<(), NoMemory>
 
 /// Extends the partial walk by the next arc.
 fn extend(listing: &mut Listing, values: Values) -> Result<(), NoMemory>
-    ensures arcs { OnOk result (listing.new.arcs.items ≡ listing.old.arcs.items ++ listing.old.next ∷ []) }
-    ensures values { OnOk result (listing.new.values.items ≡ listing.old.values.items ++ values ∷ []) }
+    ensures arcs { OnOk result
+        (listing.new.arcs.items ≡ listing.old.arcs.items ++ listing.old.next ∷ []) }
+    ensures values { OnOk result
+        (listing.new.values.items ≡ listing.old.values.items ++ values ∷ []) }
     ensures next { OnOk result (listing.new.next ≡ 0) }
     ensures walks { OnOk result (listing.new.walks ≡ listing.old.walks) }
 {
@@ -90,8 +95,8 @@ fn try_next(alloc: Global, g: &Graph, listing: &mut Listing) -> Result<(), NoMem
     requires listing { IsListingOf g.now listing.old }
     requires next { listing.old.next < length g.now.arcs }
     ensures listing { OnOk result (IsListingOf g.now listing.new) }
-    ensures less { OnOk result (work_left (length g.now.arcs) walk_depth listing.new.arcs.items listing.new.next
-        < work_left (length g.now.arcs) walk_depth listing.old.arcs.items listing.old.next) }
+    ensures less { OnOk result
+        (listing_left g.now listing.new < listing_left g.now listing.old) }
 {
     let sink = g.ends().sink;
     let Some(values) = values_over(g, listing) else {
@@ -126,8 +131,8 @@ fn step(alloc: Global, g: &Graph, listing: &mut Listing) -> Result<bool, NoMemor
     requires consumes { ConsumesBeforeSink g.now.ends g.now.arcs }
     requires listing { IsListingOf g.now listing.old }
     ensures { IfOk result (λ more. MatchBool more
-        (IsListingOf g.now listing.new × (work_left (length g.now.arcs) walk_depth listing.new.arcs.items listing.new.next
-        < work_left (length g.now.arcs) walk_depth listing.old.arcs.items listing.old.next))
+        (IsListingOf g.now listing.new
+        × (listing_left g.now listing.new < listing_left g.now listing.old))
         (IsWalkList g.now listing.new.walks)) }
 {
     if listing.next < g.arc_count() {

@@ -1,4 +1,4 @@
-use Rattle.std.proofs.Common.{arith, refl, get_or}
+use Rattle.std.proofs.Common.{refl, get_or}
 use Rattle.vrp_cli.proofs.CheckLemmas.{enough_here}
 use Rattle.vrp_cli.proofs.search.checks.remove_arc.Goals as goal
 

@@ -1,8 +1,8 @@
-use Rattle.std.proofs.Common.{◌≡◌, ℕ, ◌+◌, ◌<◌, List, [], ◌∷◌, ◌++◌, length, refl, All, subst, arith}
+use Rattle.std.proofs.Common.{ℕ, ◌+◌, ◌<◌, List, length, refl, All, subst, arith}
 use Rattle.std.proofs.lemmas.List.{nil_from_length}
 use Rattle.vrp_cli.specs.declared.search.choose.Choice.{Choice}
 use Rattle.vrp_cli.specs.Values.{AreValuesOf}
-use Rattle.vrp_cli.specs.Selection.{IsSelection, plan_of}
+use Rattle.vrp_cli.specs.Selection.{plan_of}
 use Rattle.vrp_cli.proofs.ChoiceLemmas.{choice_done, taken_back, last_number, has_walk}
 use Rattle.vrp_cli.proofs.search.choose.go_back.Goals as goal
 

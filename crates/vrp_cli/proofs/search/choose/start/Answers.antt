@@ -1,4 +1,4 @@
-use Rattle.std.proofs.Common.{◌≡◌, ℕ, List, length, None, refl, sym, ◌∙◌, ap, arith}
+use Rattle.std.proofs.Common.{◌≡◌, length, None, refl, sym, ap, arith}
 use Rattle.route_model.specs.Parts.{ModelParts}
 use Rattle.vrp_cli.specs.declared.search.choose.Choice.{Choice}
 use Rattle.vrp_cli.proofs.ChoiceLemmas.{zero_values, zero_not_above, started}

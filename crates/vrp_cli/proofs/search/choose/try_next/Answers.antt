@@ -1,9 +1,8 @@
-use Rattle.std.proofs.Common.{◌≡◌, ℕ, ◌<◌, List, [], length, get_or, refl, sym, ◌∙◌, ap, subst, arith, pos, false, true}
+use Rattle.std.proofs.Common.{◌≡◌, ℕ, List, [], length, get_or, refl, sym, subst, false, true}
 use Rattle.std.proofs.lemmas.Result.{on_ok_weaker}
 use Rattle.route_model.specs.Parts.{maps_in}
 use Rattle.vrp_cli.specs.declared.search.choose.Choice.{Choice}
 use Rattle.vrp_cli.specs.Values.{UsedAreNotAbove}
-use Rattle.vrp_cli.specs.Selection.{IsChoiceOf, choice_left, Considers}
 use Rattle.vrp_cli.proofs.AheadLemmas.{left_skips}
 use Rattle.vrp_cli.proofs.ChoiceLemmas.{choice_skip, chosen_next, less_chosen, all_fit, used_fit}
 use Rattle.vrp_cli.proofs.search.choose.try_next.Goals as goal

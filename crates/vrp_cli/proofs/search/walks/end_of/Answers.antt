@@ -1,4 +1,4 @@
-use Rattle.std.proofs.Common.{◌≡◌, ap, sym, ◌∙◌}
+use Rattle.std.proofs.Common.{ap, sym, ◌∙◌}
 use Rattle.path_graph.specs.declared.parts.GraphArc.{GraphArc}
 use Rattle.vrp_cli.proofs.PartialLemmas.{end_of_last}
 use Rattle.vrp_cli.proofs.search.walks.end_of.Goals as goal

@@ -1,7 +1,6 @@
-use Rattle.std.proofs.Common.{◌≡◌, List, [], ◌∷◌, ◌++◌, subst, sym, ◌∙◌, ap}
+use Rattle.std.proofs.Common.{◌≡◌, List, [], ◌∷◌, ◌++◌, ◌∙◌, ap}
 use Rattle.path_graph.specs.declared.parts.Values.{Values}
 use Rattle.path_graph.specs.Walk.{root_of}
-use Rattle.vrp_cli.specs.Partial.{IsListing}
 use Rattle.vrp_cli.proofs.PartialLemmas.{listing_start}
 use Rattle.vrp_cli.proofs.search.walks.start.Goals as goal
 

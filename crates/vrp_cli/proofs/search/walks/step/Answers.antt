@@ -1,5 +1,4 @@
 use Rattle.std.proofs.Common.{◌≡◌, ℕ, ◌<◌, ◌≤◌, [], List, length, arith, subst, sym}
-use Rattle.std.proofs.lemmas.List.Elements.{All-weaker}
 use Rattle.vrp_cli.specs.Ahead.{work_left, walk_depth}
 use Rattle.vrp_cli.specs.Partial.{IsListing, IsListingOf, IsWalkList, TakesBack}
 use Rattle.vrp_cli.proofs.Results.{match_bool_weaker}

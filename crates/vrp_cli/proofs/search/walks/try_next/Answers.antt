@@ -1,4 +1,4 @@
-use Rattle.std.proofs.Common.{◌≡◌, ◌≢◌, ℕ, List, ◌+◌, ◌<◌, ◌++◌, ◌∷◌, [], ◌^◌, length, ap, sym, ◌∙◌, subst, refl, arith}
+use Rattle.std.proofs.Common.{◌≡◌, ◌≢◌, ℕ, List, ◌<◌, ◌++◌, ◌∷◌, [], length, ap, sym, ◌∙◌, subst}
 use Rattle.std.proofs.lemmas.Result.{on_ok_weaker}
 use Rattle.path_graph.specs.declared.parts.GraphArc.{GraphArc}
 use Rattle.path_graph.specs.declared.parts.Ends.{Ends}
@@ -6,7 +6,7 @@ use Rattle.path_graph.specs.declared.parts.Values.{Values}
 use Rattle.path_graph.specs.Walk.{root_of, arc_at, over_of}
 use Rattle.vrp_cli.specs.declared.search.walks.Listing.{Listing}
 use Rattle.vrp_cli.specs.Ahead.{work_left, walk_depth}
-use Rattle.vrp_cli.specs.Partial.{end_of, values_at_end, GoesOn, IsListing, IsListingOf}
+use Rattle.vrp_cli.specs.Partial.{values_at_end, IsListingOf}
 use Rattle.vrp_cli.proofs.AheadLemmas.{left_skips, left_deeper}
 use Rattle.vrp_cli.proofs.Results.{on_ok_by_four}
 use Rattle.vrp_cli.proofs.PartialLemmas.{listing_skip, listing_finish, listing_extend, listing_same, not_deep}

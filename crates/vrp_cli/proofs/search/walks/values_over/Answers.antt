@@ -1,4 +1,4 @@
-use Rattle.std.proofs.Common.{◌≡◌, ℕ, ◌<◌, List, length, All, ap, sym, ◌∙◌, subst, arith}
+use Rattle.std.proofs.Common.{◌≡◌, ℕ, List, length, ap, sym, ◌∙◌, subst, arith}
 use Rattle.path_graph.specs.declared.parts.GraphArc.{GraphArc}
 use Rattle.path_graph.specs.declared.parts.Values.{Values}
 use Rattle.path_graph.specs.Walk.{root_of, arc_at, over_of, Takes}
