@@ -1,5 +1,7 @@
 -- Lemmas on the endings of a run.
 use Rattle.std.proofs.Common.{◌≡◌, ℕ, ◌+◌, ◌≤◌, List, [], ◌∷◌, length, Option, IfSome, IsTrue, Bool, map, get_or, arith, sym, ◌∙◌, ap, subst, ℤ, w64, to_z, of_z, FitsSigned}
+use Rattle.std.specs.Prelude.{codes}
+use Rattle.std.specs.Fmt.{decimal, digits}
 use Rattle.std.specs.Str.{bytes_eq}
 use Rattle.std.proofs.lemmas.Slice.Eq.{bytes_eq-Decides}
 use Rattle.std.proofs.KnownBytes.{Consumes-whole}
@@ -10,6 +12,10 @@ use Rattle.route_model.specs.Quantities.{cost_of}
 use Rattle.route_model.specs.Solution.{IsLeast}
 use Rattle.route_model.specs.Tidy.{IsTidy, KeepsQuantities, AllComeFrom}
 use Rattle.route_model.proofs.SolutionLemmas.{cost_of-kept, least_kept}
+use Rattle.model_text.specs.declared.kind.TextFault.{TextFault}
+use Rattle.model_text.specs.declared.kind.Kind.TheVariants.{Unbuilt}
+use Rattle.model_text.specs.Kinds.{kind_number, kind_name}
+use Rattle.model_text.specs.Lines.{line}
 use Rattle.model_text.specs.SmallForm.{Spells, SpellsNothing}
 use Rattle.vrp_cli.specs.declared.answer.Answer.{Answer}
 use Rattle.vrp_cli.specs.declared.answer.Answer.TheVariants.{Optimal, Infeasible, Words, Model, ReadFailed, Memory, TooLong}
@@ -54,3 +60,9 @@ answers_input words old new fo fn input (Model text) taken took kept few holds =
 answers_input words old new fo fn input ReadFailed taken took kept few holds = absurd holds
 answers_input words old new fo fn input Memory taken took kept few holds = absurd holds
 answers_input words old new fo fn input TooLong taken took kept few holds = absurd holds
+
+-- the text of the one refusal of a model
+pub refusal_told : (fault : TextFault) → fault ≡ record { line = 1; kind = Unbuilt } → line (codes "refused") (codes "model" ∷ decimal fault.line ∷ decimal (kind_number fault.kind) ∷ kind_name fault.kind ∷ []) ≡ codes "refused model 1 17 Unbuilt\n"
+unfolding digits
+refusal_told fault is =
+    ap (λ (f : TextFault). line (codes "refused") (codes "model" ∷ decimal f.line ∷ decimal (kind_number f.kind) ∷ kind_name f.kind ∷ [])) is

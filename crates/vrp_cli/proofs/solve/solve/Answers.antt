@@ -1,9 +1,17 @@
-use Rattle.std.proofs.Common.{arith, refl, rules, ap, ◌∙◌}
-use Rattle.vrp_cli.proofs.EndingLemmas.{tells_least}
+use Rattle.std.proofs.Common.{[], ◌∷◌, ap, ◌∙◌, ℤ, FitsSigned, w64, rules}
+use Rattle.std.proofs.lemmas.Int.{to_z-of_z}
+use Rattle.vrp_cli.specs.Headline.{optimal_text}
+use Rattle.vrp_cli.proofs.EndingLemmas.{tells_least, refusal_told}
 use Rattle.vrp_cli.proofs.solve.solve.Goals as goal
 
 pub returns : goal.returns
-returns c = ?
+returns c =
+    let best = rw c.in-Some.is at c.in_ok-best.ensures.least in
+    let fits : FitsSigned w64 c.in-Some.best.cost = search rules in
+    let told = c.in_ok-plan_text.ensures ∙ ap (λ (z : ℤ). optimal_text z c.in_ok-plan.plan.paths) (to_z-of_z w64 c.in-Some.best.cost fits) in
+    tells_least c.args.input.now c.in_ok-plan_text.field-0 c.in-Ok.model c.in-Some.best.plan.paths c.in_ok-plan.plan.paths c.in-Some.best.cost c.in-Ok.ensures.ok best c.in_ok-plan.ensures.tidy c.in_ok-plan.ensures.quantities c.in_ok-plan.ensures.walks told
 
 pub returns-in-Err-Text : goal.returns-in-Err-Text
-returns-in-Err-Text c = ?
+returns-in-Err-Text c =
+    let refused = rw c.in-Err-Text.field-0-is at c.in-Err-Text.ensures.refused in
+    (refused.1, c.in_ok-refusal_text-in-Err-Text.ensures ∙ refusal_told c.in-Err-Text.fault refused.0)
