@@ -5,4 +5,5 @@ pub mod CheckLemmas
 pub mod PlanLemmas
 pub mod ChoiceLemmas
 pub mod ExchangeLemmas
+pub mod EndingLemmas
 pub mod MergeLemmas

@@ -1,3 +1,5 @@
+pub mod Headline
+pub mod Answer
 pub mod Ahead
 pub mod Partial
 pub mod Values

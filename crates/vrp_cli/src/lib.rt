@@ -1,4 +1,9 @@
-//! The solver of models: a search through all plans, from which a least one is taken.
+//! The program's one call: it reads a model, solves it by a plain search, and writes the answer.
 #![tactic(auto)]
 
+mod answer;
+mod run;
 mod search;
+mod solve;
+
+pub use run::{Status, run_vrp};

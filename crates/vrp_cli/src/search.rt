@@ -2,4 +2,4 @@ mod checks;
 mod choose;
 mod walks;
 
-pub(crate) use choose::{Best, least_plan};
+pub(crate) use choose::least_plan;

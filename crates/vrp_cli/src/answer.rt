@@ -1,0 +1,52 @@
+ghost use Rattle.std.specs.Prelude.{◌≡◌};
+ghost use Rattle.vrp_cli.specs.Answer.{status_of, text_of};
+
+use model_text::LineWriter;
+
+/// What a run answers.
+#[derive(Drop)]
+pub(crate) enum Answer {
+    /// A least plan, by its text.
+    Optimal(LineWriter),
+    /// There is no solution.
+    Infeasible,
+    /// The words are not taken.
+    Words,
+    /// The input is refused, by the text of its fault.
+    Model(LineWriter),
+    ReadFailed,
+    Memory,
+    TooLong,
+}
+
+impl Answer {
+    /// The status that the program ends with, if the answer is written.
+    pub(crate) fn status(&self) -> u8
+        ensures { result ≡ status_of self.now }
+    {
+        match self {
+            Answer::Optimal(_) => 0,
+            Answer::Infeasible => 1,
+            Answer::Words => 2,
+            Answer::Model(_) => 3,
+            Answer::ReadFailed => 7,
+            Answer::Memory => 9,
+            Answer::TooLong => 10,
+        }
+    }
+
+    /// The text that is written.
+    pub(crate) fn text(&self) -> &[u8]
+        ensures { result.now ≡ text_of self.now }
+    {
+        match self {
+            Answer::Optimal(text) => text.as_slice(),
+            Answer::Infeasible => b"infeasible\n",
+            Answer::Words => b"refused words\n",
+            Answer::Model(text) => text.as_slice(),
+            Answer::ReadFailed => b"fault read\n",
+            Answer::Memory => b"fault memory\n",
+            Answer::TooLong => b"refused input too long\n",
+        }
+    }
+}

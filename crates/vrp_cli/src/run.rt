@@ -1,0 +1,80 @@
+ghost use Rattle.std.specs.Prelude.{◌≡◌, ◌↔◌, ◌+◌, ◌<◌, ◌≤◌, ◌⊎◌, ℕ, List, IsTrue, IfSome, map, string_bytes, codes, length};
+ghost use Rattle.std.specs.Io.KnownBytes.{Appends};
+ghost use Rattle.vrp_io.specs.Counts.{Rose};
+ghost use Rattle.vrp_io.specs.Bytes.{TookExactly};
+ghost use Rattle.route_model.specs.Parts.{ModelParts};
+ghost use Rattle.model_text.specs.SmallForm.{Spells, SpellsNothing};
+ghost use Rattle.vrp_cli.specs.Headline.{AreTaken, input_limit, Answers, Tells, Runs, WroteLeast, SpellsInfeasible};
+ghost use Rattle.vrp_cli.specs.Answer.{status_of, text_of};
+
+use crate::answer::Answer;
+use crate::solve::solve;
+use std::alloc::Global;
+use std::thread::Threads;
+use vrp_io::{Gate, ReadFault, Sink, Source, read_all, write_all};
+
+/// The most bytes that an input has.
+const INPUT_LIMIT: u32 = 67_108_864;
+
+/// How a run ended: the number that the program ends with.
+///
+/// 0 optimal, 1 infeasible, 2 refused words, 3 refused model, 7 fault of reading, 8 fault of writing, 9 want of
+/// memory, 10 input too long.
+#[derive(Clone, Copy, Debug, PartialEq, Eq)]
+pub struct Status {
+    pub number: u8,
+}
+
+/// Runs the program: reads the words, then the whole input, then works, and writes the whole answer.
+///
+/// `words` are those after the program's name. Words that are not taken are refused before anything is read. No call
+/// under it waits, so it returns for every input.
+pub fn run_vrp<R: Threads + Sync, S: Source, K: Sink, G: Gate + Sync>(
+    _rt: &R,
+    alloc: Global,
+    words: &[String],
+    source: &mut S,
+    sink: &mut K,
+    _gate: &G,
+) -> Status
+    // The whole story: an answer to the words and the input, and how it was told.
+    ensures run { Runs (map string_bytes words.now)
+        (S.left source.old) (S.left source.new) (S.faults source.old) (S.faults source.new)
+        (K.written sink.old) (K.written sink.new) (K.faults sink.old) (K.faults sink.new) result.number }
+{
+    let answer = decide(alloc, words, source);
+    match write_all(sink, answer.text()) {
+        Ok(()) => Status {
+            number: answer.status(),
+        },
+        Err(_) => Status { number: 8 },
+    }
+}
+
+/// The answer to the words and the input.
+fn decide<S: Source>(alloc: Global, words: &[String], source: &mut S) -> Answer
+    ensures answers { Answers (map string_bytes words.now)
+        (S.left source.old) (S.left source.new) (S.faults source.old) (S.faults source.new)
+        (status_of result) (text_of result) }
+    ensures unread { (AreTaken (map string_bytes words.now) → ⊥) → source.new ≡ source.old }
+{
+    if !are_taken(words) {
+        return Answer::Words;
+    }
+    match read_all(alloc, source, INPUT_LIMIT) {
+        Ok(input) => match solve(alloc, input.as_slice()) {
+            Ok(answer) => answer,
+            Err(_) => Answer::Memory,
+        },
+        Err(ReadFault::Read) => Answer::ReadFailed,
+        Err(ReadFault::TooLong) => Answer::TooLong,
+        Err(ReadFault::Memory) => Answer::Memory,
+    }
+}
+
+/// Whether the words are the one word `solve`.
+fn are_taken(words: &[String]) -> bool
+    ensures { IsTrue result ↔ AreTaken (map string_bytes words.now) }
+{
+    words.len() == 1 && words[0].as_str() == "solve"
+}
