@@ -17,7 +17,8 @@ use Rattle.model_text.specs.SmallForm.{IsSmallForm}
 use Rattle.vrp_cli.specs.declared.search.choose.Found.{Found}
 use Rattle.vrp_cli.specs.Partial.{IsWalkList}
 use Rattle.vrp_cli.specs.Selection.{plan_of, IsSelection, IsRisingFrom, IsFound, IsAtMost, IsBest}
-use Rattle.vrp_cli.proofs.PlanLemmas.{quantity-plan_of, paths_of-plan_of, selected_path, solution_kept, cost_kept}
+use Rattle.route_model.proofs.SolutionLemmas.{cost_of-kept}
+use Rattle.vrp_cli.proofs.PlanLemmas.{quantity-plan_of, paths_of-plan_of, selected_path, solution_kept}
 
 -- a rising list of numbers below n that has what xs has, and the number i so many times more
 record Inserted (n a i count : ℕ) (xs : List ℕ) : Type 0 where
@@ -112,7 +113,7 @@ exchanges m walks plan form list s =
       rising = chosen.rising;
       selection = record { numbers = chosen.numbers; few = omega (arith, high, paths_of-plan_of walks chosen.xs) };
       solution = solution;
-      costs = cost_kept m plan (plan_of walks chosen.xs) chosen.keeps;
+      costs = cost_of-kept m plan (plan_of walks chosen.xs) chosen.keeps;
     }
 
 pub none_solves : (m : ModelParts) (walks : List (List ℕ)) (best : Option Found) → IsSmallForm m → IsWalkList (graph_at m 0) walks → best ≡ None → IsBest m walks best → HasNoSolution m

@@ -15,7 +15,8 @@ use Rattle.route_model.specs.Solution.{IsPath, IsLeast}
 use Rattle.model_text.specs.SmallForm.{IsSmallForm}
 use Rattle.vrp_cli.specs.Partial.{IsWalkList}
 use Rattle.vrp_cli.specs.Selection.{plan_of, IsMerged}
-use Rattle.vrp_cli.proofs.PlanLemmas.{quantity-plan_of, solution_kept, cost_kept}
+use Rattle.route_model.proofs.SolutionLemmas.{cost_of-kept}
+use Rattle.vrp_cli.proofs.PlanLemmas.{quantity-plan_of, solution_kept}
 
 -- a path takes a walk of the list
 abbrev pub TakesListed : List (List ℕ) → Taken → Type 0
@@ -100,7 +101,7 @@ merged_path m walks chosen plan form list h k l =
 
 pub merged_least : (m : ModelParts) (walks : List (List ℕ)) (chosen : List ℕ) (plan : List Taken) (cost : ℤ) → IsSmallForm m → IsWalkList (graph_at m 0) walks → IsMerged walks chosen plan → IsLeast m (plan_of walks chosen) × (cost ≡ cost_of m (plan_of walks chosen)) → IsLeast m plan × (cost ≡ cost_of m plan)
 merged_least m walks chosen plan cost form list h k =
-    let same = cost_kept m (plan_of walks chosen) plan h.keeps in (
+    let same = cost_of-kept m (plan_of walks chosen) plan h.keeps in (
       record {
         solution = solution_kept m (plan_of walks chosen) plan h.keeps (merged_path m walks chosen plan form list h) k.0.solution;
         least = λ other s. subst (λ (c : ℤ). c ≤ℤ (cost_of m other)) (sym same) (k.0.least other s);

@@ -179,12 +179,7 @@ passes_if_solves m walks xs values form h s =
       rows = λ i l. subst (IsBetween (row_at m.rows i).low (row_at m.rows i).high) (sym (row_same m walks xs values i form l h)) (s.rows i l);
     }
 
--- plans with the same quantities are solutions alike, and cost the same
-pub cost_kept : (m : ModelParts) (old new : List Taken) → KeepsQuantities old new → cost_of m new ≡ cost_of m old
-cost_kept m old new keeps =
-    sum_below-same (length m.vars) (λ j. (var_at m.vars j).cost *ℤ pos (value_of m new j)) (λ j. (var_at m.vars j).cost *ℤ pos (value_of m old j))
-    (λ j l. ap (λ (n : ℕ). (var_at m.vars j).cost *ℤ pos n) (keeps (uses_in m.maps j)))
-
+-- plans with the same quantities are solutions alike
 row_kept : (m : ModelParts) (old new : List Taken) (terms : List RowTerm) → KeepsQuantities old new → row_sum m new terms ≡ row_sum m old terms
 row_kept m old new terms keeps =
     sum_below-same (length terms) (λ k. (term_at terms k).coef *ℤ pos (value_of m new (term_at terms k).var)) (λ k. (term_at terms k).coef *ℤ pos (value_of m old (term_at terms k).var))
