@@ -1,5 +1,5 @@
 -- How a run of the program ends, and what each ending says.
-use Rattle.std.specs.Prelude.{◌≡◌, ℕ, ◌+◌, ◌≤◌, ◌⊎◌, ℤ, List, [], ◌∷◌, ◌++◌, length, codes, Option, IfSome}
+use Rattle.std.specs.Prelude.{◌≡◌, ℕ, ◌+◌, ◌<◌, ◌≤◌, ◌⊎◌, ℤ, List, [], ◌∷◌, ◌++◌, length, codes, Option, IfSome}
 use Rattle.std.specs.List.{flat_map}
 use Rattle.std.specs.Fmt.{signed_decimal}
 use Rattle.std.specs.Io.KnownBytes.{IsAtEnd, Appends}
@@ -8,7 +8,7 @@ use Rattle.vrp_io.specs.Bytes.{TookAtMost, TookExactly, AppendedPrefix}
 use Rattle.route_model.specs.declared.plan.Taken.{Taken}
 use Rattle.route_model.specs.Parts.{ModelParts}
 use Rattle.route_model.specs.Quantities.{cost_of}
-use Rattle.route_model.specs.Solution.{IsLeast, HasNoSolution}
+use Rattle.route_model.specs.Solution.{IsSolution, IsLeast, HasNoSolution}
 use Rattle.route_model.specs.Tidy.{IsTidy}
 use Rattle.model_text.specs.Lines.{line, path_line}
 use Rattle.model_text.specs.SmallForm.{Spells, SpellsNothing}
@@ -72,3 +72,11 @@ pub record Runs (words : List (List ℕ)) (left_old left_new : Option (List ℕ)
 -- what was written is the cost and the tidy path lines of a least solution of the model that the input spells
 abbrev pub WroteLeast : Option (List ℕ) → Option (List ℕ) → List ℕ → Type 0
 WroteLeast old new input = (text : List ℕ) × TellsLeast text input × Appends old new text
+
+-- the status that is due on an input: by its length, then by whether it spells a model, then by whether that has a solution
+abbrev pub IsDue : ℕ → List ℕ → Type 0
+IsDue end input =
+    (input_limit < length input → end ≡ 10)
+    × (length input ≤ input_limit → SpellsNothing input → end ≡ 3)
+    × ((m : ModelParts) → length input ≤ input_limit → Spells input m → HasNoSolution m → end ≡ 1)
+    × ((m : ModelParts) (plan : List Taken) → length input ≤ input_limit → Spells input m → IsSolution m plan → end ≡ 0)

@@ -4,7 +4,7 @@ ghost use Rattle.vrp_io.specs.Counts.{Rose};
 ghost use Rattle.vrp_io.specs.Bytes.{TookExactly};
 ghost use Rattle.route_model.specs.Parts.{ModelParts};
 ghost use Rattle.model_text.specs.SmallForm.{Spells, SpellsNothing};
-ghost use Rattle.vrp_cli.specs.Headline.{AreTaken, input_limit, Answers, Tells, Runs, WroteLeast, SpellsInfeasible};
+ghost use Rattle.vrp_cli.specs.Headline.{AreTaken, input_limit, Answers, Tells, Runs, WroteLeast, SpellsInfeasible, IsDue};
 ghost use Rattle.vrp_cli.specs.Answer.{status_of, text_of};
 
 use crate::answer::Answer;
@@ -41,6 +41,26 @@ pub fn run_vrp<R: Threads + Sync, S: Source, K: Sink, G: Gate + Sync>(
     ensures run { Runs (map string_bytes words.now)
         (S.left source.old) (S.left source.new) (S.faults source.old) (S.faults source.new)
         (K.written sink.old) (K.written sink.new) (K.faults sink.old) (K.faults sink.new) result.number }
+
+    // What each status says.
+    ensures optimal { result.number ≡ 0 → IfSome (S.left source.old)
+        (WroteLeast (K.written sink.old) (K.written sink.new)) }
+    ensures infeasible { result.number ≡ 1 → IfSome (S.left source.old) SpellsInfeasible
+        × Appends (K.written sink.old) (K.written sink.new) (codes "infeasible\n") }
+    ensures words { result.number ≡ 2 → AreTaken (map string_bytes words.now) → ⊥ }
+    ensures model { result.number ≡ 3 → IfSome (S.left source.old) SpellsNothing }
+    ensures read { result.number ≡ 7 → Rose (S.faults source.old) (S.faults source.new) }
+    ensures write { result.number ≡ 8 → Rose (K.faults sink.old) (K.faults sink.new) }
+    ensures long { result.number ≡ 10 →
+        TookExactly (S.left source.old) (S.left source.new) (input_limit + 1) }
+
+    // When each must come, where no fault rises and memory is not wanting.
+    ensures unread { (AreTaken (map string_bytes words.now) → ⊥) →
+        (source.new ≡ source.old) × ((result.number ≡ 2) ⊎ (result.number ≡ 8)) }
+    ensures due { AreTaken (map string_bytes words.now)
+        → (Rose (S.faults source.old) (S.faults source.new) → ⊥)
+        → (Rose (K.faults sink.old) (K.faults sink.new) → ⊥)
+        → (result.number ≡ 9) ⊎ IfSome (S.left source.old) (IsDue result.number) }
 {
     let answer = decide(alloc, words, source);
     match write_all(sink, answer.text()) {
