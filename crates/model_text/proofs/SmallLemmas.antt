@@ -1,12 +1,13 @@
 -- Whatever the bytes, the guess has one main resource and six places.
-use Rattle.std.proofs.Common.{◌≡◌, ℕ, Bool, true, false, cond, List, [], ◌∷◌, ◌++◌, length, fold, Option, refl, ℤ, nat_le}
-use Rattle.std.specs.Prelude.{All, ◌==◌}
+use Rattle.std.proofs.Common.{◌≡◌, ℕ, Bool, true, false, cond, List, [], ◌∷◌, ◌++◌, length, fold, Option, refl, ℤ, nat_lt}
+use Rattle.std.specs.Prelude.{All, ◌==◌, ◌&&◌}
 use Rattle.std.proofs.lemmas.List.Elements.{All-nil, All-push}
 use Rattle.path_graph.specs.declared.parts.Vertex.{Vertex}
 use Rattle.path_graph.specs.declared.parts.GraphArc.{GraphArc}
 use Rattle.model_text.specs.declared.guess.Guess.{Guess}
 use Rattle.model_text.specs.declared.reading.Reading.{Reading}
-use Rattle.model_text.specs.Guess.{no_parts, line_begun, line_ended, word_ended, byte_read, reading_after, parts_after, guess_of, vertex_of, arc_of}
+use Rattle.model_text.specs.Guess.{put_within, no_parts, parts_after, vertex_of, arc_of}
+use Rattle.model_text.specs.Bytes.{line_begun, line_ended, word_ended, byte_read, reading_after, guess_of}
 use Rattle.model_text.proofs.GraphLemmas.{IsSingle}
 
 pub record IsSmall (g : Guess) : Type 0 where
@@ -17,6 +18,10 @@ pub record IsSmall (g : Guess) : Type 0 where
 cond_keeps : {X : Type 0} (P : X → Type 0) (b : Bool) (x y : X) → P x → P y → P (cond b x y)
 cond_keeps P true x y p q = p
 cond_keeps P false x y p q = q
+
+put_keeps : {X : Type 0} (P : X → Type 0) (limit : ℕ) (xs : List X) (x : X) → All P xs → P x → All P (put_within limit xs x)
+put_keeps P limit xs x all p =
+    cond_keeps (All P) (nat_lt (length xs) limit) (xs ++ x ∷ []) xs (All-push P xs x all p) all
 
 line_keeps : (g : Guess) (letter : ℕ) (words : List (Option ℤ)) → IsSmall g → IsSmall (parts_after g letter words)
 line_keeps g letter words small =
@@ -29,10 +34,10 @@ line_keeps g letter words small =
     })
     (cond_keeps IsSmall (letter == 120) _ _ (record {
       one = small.one;
-      windows = All-push (λ (v : Vertex). length v.windows ≡ 6) g.vertices (vertex_of words) small.windows refl;
+      windows = put_keeps (λ (v : Vertex). length v.windows ≡ 6) 1024 g.vertices (vertex_of words) small.windows refl;
       needs = small.needs;
     })
-    (cond_keeps IsSmall (letter == 99) _ _ (record {
+    (cond_keeps IsSmall (letter == 99 && nat_lt (length g.arcs) 60000) _ _ (record {
       one = small.one;
       windows = small.windows;
       needs = All-push (λ (arc : GraphArc). length arc.needs ≡ 6) g.arcs (arc_of words) small.needs refl;
