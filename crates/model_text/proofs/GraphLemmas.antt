@@ -143,15 +143,14 @@ plain_vertex_after g ends one w low high room =
 -- a vertex of the small form
 pub record IsPlainVertex (ends : Ends) (v : Vertex) : Type 0 where
   pub fits : VertexFits ends v
-  pub places : length v.windows ≡ 6
   pub free : v.set ≡ None
 
 pub vertex_after : (g : Guess) (ends : Ends) → IsSingle ends → (v : Vertex) → IsPlainVertex ends v → length g.vertices < 1024 → fold reading_after (line_begun g) (vertex_line ends v) ≡ line_begun (put_vertices g (v ∷ []))
 vertex_after g ends one v plain room =
     let ws = v.windows in
     let w = window_at ws 0 in
-    let is : v ≡ plain_vertex w = ap (λ s. record { set = s; windows = ws }) plain.free ∙ ap (λ xs. record { set = None; windows = xs }) (windows_are ends ws one plain.places plain.fits.windows) in
-    let first = plain.fits.windows 0 (let l = plain.places in omega (arith, l)) in
+    let is : v ≡ plain_vertex w = ap (λ s. record { set = s; windows = ws }) plain.free ∙ ap (λ xs. record { set = None; windows = xs }) (windows_are ends ws one plain.fits.places plain.fits.windows) in
+    let first = plain.fits.windows 0 (let l = plain.fits.places in omega (arith, l)) in
     let in_limits = subst (λ b. WindowFits b w) (used_0 ends one) first in
     let a = in_limits.0 in
     let b = in_limits.1 in
@@ -221,7 +220,6 @@ plain_arc_after count few g ends one tail head q vars low_tail low_head limits a
 -- an arc of the small form, with its variables
 pub record IsPlainArc (count vertices : ℕ) (ends : Ends) (p : GraphArc × List ℕ) : Type 0 where
   pub fits : ArcFits ends vertices p.0
-  pub places : length p.0.needs ≡ 6
   pub maps : MapFits count p.1
 
 pub arc_after : (count vertices : ℕ) → count ≤ 30000 → vertices ≤ 1024 → (g : Guess) (ends : Ends) → IsSingle ends → (p : GraphArc × List ℕ) → IsPlainArc count vertices ends p → length g.arcs < 60000 → fold reading_after (line_begun g) (arc_line ends p.0 p.1) ≡ line_begun (put_arcs g (p ∷ []))
@@ -230,8 +228,8 @@ arc_after count vertices few low g ends one p plain room =
     let vars = p.1 in
     let qs = arc.needs in
     let q = int_at qs 0 in
-    let is : arc ≡ plain_arc arc.tail arc.head q = ap (λ xs. record { tail = arc.tail; head = arc.head; needs = xs }) (needs_are ends qs one plain.places plain.fits.needs) in
-    let first = plain.fits.needs 0 (let l = plain.places in omega (arith, l)) in
+    let is : arc ≡ plain_arc arc.tail arc.head q = ap (λ xs. record { tail = arc.tail; head = arc.head; needs = xs }) (needs_are ends qs one plain.fits.places plain.fits.needs) in
+    let first = plain.fits.needs 0 (let l = plain.fits.places in omega (arith, l)) in
     let in_limits = subst (λ b. NeedFits b true q) (used_0 ends one) first in
     let a = in_limits.0 in
     let bottom : (neg_ℤ (pos 100000000)) ≤ℤ q = omega (arith, ints) in

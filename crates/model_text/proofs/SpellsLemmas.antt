@@ -1,6 +1,5 @@
 -- What a text spells, and what it does not, by its guess.
-use Rattle.std.proofs.Common.{◌≡◌, ℕ, List, [], length, refl, ap, subst, sym, ◌∙◌}
-use Rattle.std.specs.Prelude.{All}
+use Rattle.std.proofs.Common.{◌≡◌, ℕ, List, [], refl, ap, subst, sym, ◌∙◌}
 use Rattle.std.proofs.lemmas.List.Elements.{All-head}
 use Rattle.path_graph.specs.Fit.{PartsFit}
 use Rattle.path_graph.specs.Within.{ConsumesBeforeSink}
@@ -45,18 +44,14 @@ not_printed bytes g is other m spells =
 small_form : (bytes : List ℕ) (g : Guess) → g ≡ guess_of bytes → IsModel (parts_of g) → ConsumesBeforeSink g.ends g.arcs → IsSmallForm (parts_of g)
 small_form bytes g is model consumes =
     let small = guess_is_small bytes in
-    let one = ap (λ (x : Guess). x.ends.mains) is ∙ small.one.mains in
-    let none = ap (λ (x : Guess). x.ends.seconds) is ∙ small.one.seconds in
+    let one = ap (λ (x : Guess). x.ends.mains) is ∙ small.mains in
+    let none = ap (λ (x : Guess). x.ends.seconds) is ∙ small.seconds in
     record {
       model = model;
       no_sets = refl;
       one_graph = refl;
       one_main = one;
       no_seconds = none;
-      places = record {
-        windows = subst (λ (x : Guess). All (λ v. length v.windows ≡ 6) x.vertices) (sym is) small.windows;
-        needs = subst (λ (x : Guess). All (λ arc. length arc.needs ≡ 6) x.arcs) (sym is) small.needs;
-      };
       consumes = consumes;
     }
 

@@ -19,7 +19,7 @@ use Rattle.model_text.specs.declared.guess.Guess.{Guess}
 use Rattle.model_text.specs.declared.reading.Reading.{Reading}
 use Rattle.model_text.specs.Lines.{line}
 use Rattle.model_text.specs.ModelText.{var_line, row_line, sets_line, graph_line, vertex_line, arc_line, graph_text, model_text}
-use Rattle.model_text.specs.SmallForm.{IsSmallForm, HasSixPlaces}
+use Rattle.model_text.specs.SmallForm.{IsSmallForm}
 use Rattle.model_text.specs.Guess.{no_parts, parts_of}
 use Rattle.model_text.specs.Bytes.{line_begun, reading_after, guess_of}
 use Rattle.model_text.proofs.ReadingLemmas.{lines_after}
@@ -71,36 +71,34 @@ no_set : (set : Option ℕ) → IfSome set (λ k. k < 0) → set ≡ None
 no_set None h = refl
 no_set (Some k) h = absurd (omega (arith, h))
 
-plain_vertices : (ends : Ends) (vs : List Vertex) → All (VertexFits ends) vs → All (λ v. length v.windows ≡ 6) vs → All (IsDeclared 0) vs → All (IsPlainVertex ends) vs
-plain_vertices ends [] fit places free = All-nil (IsPlainVertex ends)
-plain_vertices ends (v ∷ vs) fit places free =
+plain_vertices : (ends : Ends) (vs : List Vertex) → All (VertexFits ends) vs → All (IsDeclared 0) vs → All (IsPlainVertex ends) vs
+plain_vertices ends [] fit free = All-nil (IsPlainVertex ends)
+plain_vertices ends (v ∷ vs) fit free =
     All-cons (IsPlainVertex ends) v vs
     (record {
       fits = All-head (VertexFits ends) v vs fit;
-      places = All-head (λ (x : Vertex). length x.windows ≡ 6) v vs places;
       free = no_set v.set (All-head (IsDeclared 0) v vs free);
     })
-    (plain_vertices ends vs (All-tail (VertexFits ends) v vs fit) (All-tail (λ (x : Vertex). length x.windows ≡ 6) v vs places) (All-tail (IsDeclared 0) v vs free))
+    (plain_vertices ends vs (All-tail (VertexFits ends) v vs fit) (All-tail (IsDeclared 0) v vs free))
 
-plain_arcs : (count vertices : ℕ) (ends : Ends) (arcs : List GraphArc) (maps : List (List ℕ)) → All (ArcFits ends vertices) arcs → All (λ arc. length arc.needs ≡ 6) arcs → All (MapFits count) maps → All (IsPlainArc count vertices ends) (zip arcs maps)
-plain_arcs count vertices ends [] maps fit places each = All-nil (IsPlainArc count vertices ends)
-plain_arcs count vertices ends (arc ∷ arcs) [] fit places each = All-nil (IsPlainArc count vertices ends)
-plain_arcs count vertices ends (arc ∷ arcs) (vars ∷ maps) fit places each =
+plain_arcs : (count vertices : ℕ) (ends : Ends) (arcs : List GraphArc) (maps : List (List ℕ)) → All (ArcFits ends vertices) arcs → All (MapFits count) maps → All (IsPlainArc count vertices ends) (zip arcs maps)
+plain_arcs count vertices ends [] maps fit each = All-nil (IsPlainArc count vertices ends)
+plain_arcs count vertices ends (arc ∷ arcs) [] fit each = All-nil (IsPlainArc count vertices ends)
+plain_arcs count vertices ends (arc ∷ arcs) (vars ∷ maps) fit each =
     All-cons (IsPlainArc count vertices ends) (arc, vars) (zip arcs maps)
     (record {
       fits = All-head (ArcFits ends vertices) arc arcs fit;
-      places = All-head (λ (x : GraphArc). length x.needs ≡ 6) arc arcs places;
       maps = All-head (MapFits count) vars maps each;
     })
-    (plain_arcs count vertices ends arcs maps (All-tail (ArcFits ends vertices) arc arcs fit) (All-tail (λ (x : GraphArc). length x.needs ≡ 6) arc arcs places) (All-tail (MapFits count) vars maps each))
+    (plain_arcs count vertices ends arcs maps (All-tail (ArcFits ends vertices) arc arcs fit) (All-tail (MapFits count) vars maps each))
 
 -- the parts of a model of one graph without sets
 abbrev one_graph : List Var → List Row → GraphParts → List (List ℕ) → ModelParts
 one_graph vars rows g maps =
     record { vars = vars; rows = rows; sets = 0; graphs = g ∷ []; maps = maps ∷ [] }
 
-text_after : (vars : List Var) (rows : List Row) (g : GraphParts) (maps : List (List ℕ)) → length vars ≤ 30000 → All VarFits vars → All (IsRoomyRow (length vars)) rows → length rows ≤ 5000 → IsGraph g → IsSingle g.ends → All (IsDeclared 0) g.vertices → HasSixPlaces g → length maps ≡ length g.arcs → All (MapFits (length vars)) maps → guess_of (model_text (one_graph vars rows g maps)) ≡ record { vars = vars; rows = rows; ends = g.ends; vertices = g.vertices; arcs = g.arcs; maps = maps }
-text_after vars rows g maps few all_vars all_rows few_rows graph one free places same each =
+text_after : (vars : List Var) (rows : List Row) (g : GraphParts) (maps : List (List ℕ)) → length vars ≤ 30000 → All VarFits vars → All (IsRoomyRow (length vars)) rows → length rows ≤ 5000 → IsGraph g → IsSingle g.ends → All (IsDeclared 0) g.vertices → length maps ≡ length g.arcs → All (MapFits (length vars)) maps → guess_of (model_text (one_graph vars rows g maps)) ≡ record { vars = vars; rows = rows; ends = g.ends; vertices = g.vertices; arcs = g.arcs; maps = maps }
+text_after vars rows g maps few all_vars all_rows few_rows graph one free same each =
     let n = length vars in
     let pairs = zip g.arcs maps in
     let version : List ℕ = line (codes "vrpmodel") (codes "1" ∷ []) in
@@ -113,8 +111,8 @@ text_after vars rows g maps few all_vars all_rows few_rows graph one free places
     let to_rows = both no_parts a b (version ++ flat_map var_line vars) (flat_map row_line rows) to_vars (rows_after n few a rows all_rows (omega (arith, few_rows))) in
     let to_sets = both no_parts b b (version ++ flat_map var_line vars ++ flat_map row_line rows) (sets_line 0) to_rows refl in
     let ends = ends_after b g graph.few_vertices graph.ends_fit one in
-    let vertices = both b c d (graph_line g) (flat_map (vertex_line g.ends) g.vertices) ends (vertices_after g.ends one c g.vertices (plain_vertices g.ends g.vertices graph.each_vertex places.windows free) (let low = graph.few_vertices in omega (arith, low))) in
-    let arcs = both b d e (graph_line g ++ flat_map (vertex_line g.ends) g.vertices) (flat_map (λ p. arc_line g.ends p.0 p.1) pairs) vertices (arcs_after n (length g.vertices) few graph.few_vertices g.ends one d pairs (plain_arcs n (length g.vertices) g.ends g.arcs maps graph.each_arc places.needs each) (let low = graph.few_arcs in omega (arith, low, length-zip g.arcs maps))) in
+    let vertices = both b c d (graph_line g) (flat_map (vertex_line g.ends) g.vertices) ends (vertices_after g.ends one c g.vertices (plain_vertices g.ends g.vertices graph.each_vertex free) (let low = graph.few_vertices in omega (arith, low))) in
+    let arcs = both b d e (graph_line g ++ flat_map (vertex_line g.ends) g.vertices) (flat_map (λ p. arc_line g.ends p.0 p.1) pairs) vertices (arcs_after n (length g.vertices) few graph.few_vertices g.ends one d pairs (plain_arcs n (length g.vertices) g.ends g.arcs maps graph.each_arc each) (let low = graph.few_arcs in omega (arith, low, length-zip g.arcs maps))) in
     let graphs = both b e e (graph_text g maps) [] arcs refl in
     let to_graphs = both no_parts b e (version ++ flat_map var_line vars ++ flat_map row_line rows ++ sets_line 0) (graph_text g maps ++ []) to_sets graphs in
     let to_end = both no_parts e e (version ++ flat_map var_line vars ++ flat_map row_line rows ++ sets_line 0 ++ (graph_text g maps ++ [])) (line (codes "end") []) to_graphs refl in
@@ -152,4 +150,4 @@ guess_back m form =
     let one : IsSingle g.ends = record { mains = form.one_main; seconds = form.no_seconds } in
     let Back : ModelParts → Type 0 = λ x. parts_of (guess_of (model_text x)) ≡ x in
     subst Back (sym is)
-    (ap parts_of (text_after m.vars m.rows g maps fits.vars.few fits.vars.each (roomy_rows (length m.vars) m.rows fits.rows.each fits.rows.few_terms) fits.rows.few graph.graph one free form.places mapped.arcs mapped.each))
+    (ap parts_of (text_after m.vars m.rows g maps fits.vars.few fits.vars.each (roomy_rows (length m.vars) m.rows fits.rows.each fits.rows.few_terms) fits.rows.few graph.graph one free mapped.arcs mapped.each))

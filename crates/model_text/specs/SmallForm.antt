@@ -1,6 +1,5 @@
 -- The models and texts that are read so far.
-use Rattle.std.specs.Prelude.{◌≡◌, ℕ, List, length, All}
-use Rattle.path_graph.specs.Walk.{GraphParts}
+use Rattle.std.specs.Prelude.{◌≡◌, ℕ, List, length}
 use Rattle.path_graph.specs.Within.{ConsumesBeforeSink}
 use Rattle.route_model.specs.Parts.{ModelParts, graph_at}
 use Rattle.route_model.specs.Fit.{IsModel}
@@ -8,11 +7,6 @@ use Rattle.model_text.specs.declared.kind.Kind.TheVariants.{Unbuilt}
 use Rattle.model_text.specs.declared.kind.ReadError.{ReadError}
 use Rattle.model_text.specs.declared.kind.ReadError.TheVariants.{Text, Memory}
 use Rattle.model_text.specs.ModelText.{model_text}
-
--- each vertex has a window and each arc a need at each of the six positions, as their types say
-pub record HasSixPlaces (g : GraphParts) : Type 0 where
-  pub windows : All (λ v. length v.windows ≡ 6) g.vertices
-  pub needs : All (λ arc. length arc.needs ≡ 6) g.arcs
 
 -- a model of one graph with one main resource and no secondary one, without packing sets, in which
 -- every arc that does not enter the sink consumes some of the resource
@@ -22,7 +16,6 @@ pub record IsSmallForm (m : ModelParts) : Type 0 where
   pub one_graph : length m.graphs ≡ 1
   pub one_main : (graph_at m 0).ends.mains ≡ 1
   pub no_seconds : (graph_at m 0).ends.seconds ≡ 0
-  pub places : HasSixPlaces (graph_at m 0)
   pub consumes : ConsumesBeforeSink (graph_at m 0).ends (graph_at m 0).arcs
 
 -- the bytes are the printed text of a model of the small form

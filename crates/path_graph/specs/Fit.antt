@@ -33,8 +33,10 @@ WindowsFit ends ws = EachIndex ws (λ k. WindowFits (is_used_at ends k) (window_
 abbrev pub NeedsFit : Ends → List ℤ → Type 0
 NeedsFit ends qs = EachIndex qs (λ k. NeedFits (is_used_at ends k) (nat_lt k 2) (int_at qs k))
 
+-- a set below 512, if any, and a window at each of the six positions
 pub record VertexFits (ends : Ends) (v : Vertex) : Type 0 where
   pub set : IfSome v.set (λ s. s < 512)
+  pub places : length v.windows ≡ 6
   pub windows : WindowsFit ends v.windows
 
 -- an arc between two vertices that are there, not into the source and not out of the sink
@@ -43,6 +45,7 @@ pub record ArcFits (ends : Ends) (count : ℕ) (arc : GraphArc) : Type 0 where
   pub head : arc.head < count
   pub not_in : arc.head ≢ ends.source
   pub not_out : arc.tail ≢ ends.sink
+  pub places : length arc.needs ≡ 6
   pub needs : NeedsFit ends arc.needs
 
 pub record EndsFit (ends : Ends) (count : ℕ) : Type 0 where

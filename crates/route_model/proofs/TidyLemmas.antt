@@ -1,5 +1,5 @@
 -- Lemmas on tidy plans.
-use Rattle.std.proofs.Common.{◌≡◌, ℕ, ◌+◌, ◌-◌, ◌*◌, ◌≤◌, ◌<◌, inl, inr, List, [], ◌∷◌, length, take, get_or, arith, sym, ◌∙◌, ap, subst, refl, zero, suc, add-mul, mul-one, Result, Ok, Err}
+use Rattle.std.proofs.Common.{◌≡◌, ℕ, ◌+◌, ◌-◌, ◌*◌, ◌≤◌, ◌<◌, ◌⊎◌, inl, inr, List, [], ◌∷◌, length, take, get_or, arith, sym, ◌∙◌, ap, subst, refl, zero, suc, add-mul, mul-one, Result, Ok, Err}
 use Rattle.std.specs.List.{insert}
 use Rattle.std.specs.declared.cmp.Ordering.{Ordering}
 use Rattle.std.specs.declared.cmp.Ordering.TheVariants.{Less, Equal, Greater}
@@ -8,18 +8,18 @@ use Rattle.std.specs.List.Sorted.{IsSortedBy, IsBinarySearchResult, IsSearchInRa
 use Rattle.std.proofs.lemmas.Map.Lookups.{exact_unsigned, exact_bytes}
 use Rattle.std.specs.Cmp.{IsTotalOrder}
 use Rattle.std.specs.Cmp.Lexicographic.{slice_cmp}
-use Rattle.std.proofs.Math.ListN.{set}
-use Rattle.std.proofs.lemmas.List.{get_or_default}
+use Rattle.std.proofs.Math.ListN.{set, length-set}
+use Rattle.std.proofs.lemmas.List.{get_or_default, get_or-set_same, get_or-set_other}
 use Rattle.std.proofs.lemmas.List.Edits.{length-insert, get_or-insert_below, get_or-insert_at, get_or-insert_above}
 use Rattle.std.proofs.lemmas.List.Sorted.{IsPermutation-insert, sum_by-IsPermutation, searchable_from_sorted}
-use Rattle.std.proofs.lemmas.List.Sums.{sum_by-cons, sum_by-set, sum_by_more_le}
-use Rattle.std.proofs.lemmas.Bool.{cases_lt}
+use Rattle.std.proofs.lemmas.List.Sums.{sum_by-cons, sum_by-set, sum_by_more, sum_by_more_le}
+use Rattle.std.proofs.lemmas.Bool.{cases_lt, cases_eq}
 use Rattle.std.proofs.lemmas.Bool.Decides.{nat_tests}
 use Rattle.std.proofs.lemmas.Cmp.{nat_cmp_total, nat_list_cmp_total, on_total, then_total}
 use Rattle.route_model.specs.declared.plan.Taken.{Taken}
 use Rattle.route_model.specs.Parts.{taken_at}
 use Rattle.route_model.specs.Quantities.{is_of, paths_of}
-use Rattle.route_model.specs.Tidy.{walk_order, IsTidy, AddsPath, IsPlaceOf, AreFew}
+use Rattle.route_model.specs.Tidy.{walk_order, IsTidy, AddsPath, IsPlaceOf, AreFew, Covers, ComesFrom, AllComeFromOr, KeepsQuantities}
 
 pub walk_order_total : IsTotalOrder walk_order
 walk_order_total = then_total (on_total (λ (t : Taken). t.graph) nat_cmp_total) (on_total (λ (t : Taken). t.arcs) nat_list_cmp_total)
@@ -117,3 +117,61 @@ few_more plan i t few below is =
     let part = sum_by_more_le f plan i t below in
     let here : f t ≡ t.count = ap (λ (n : ℕ). t.count * n) (own_graph t) ∙ mul-one t.count in
     omega (arith, part, here, ap f is, few t.graph)
+
+same_path : (t u : Taken) → u ≡ t → Covers t u
+same_path t u e =
+    record { graph = ap (λ (x : Taken). x.graph) e; arcs = ap (λ (x : Taken). x.arcs) e; count = let c = ap (λ (x : Taken). x.count) e in omega (arith, c) }
+
+stays : (plan : List Taken) (i : ℕ) (u : Taken) → i < length plan → u ≡ taken_at plan i → ComesFrom plan u
+stays plan i u below e = (i, below, same_path (taken_at plan i) u e)
+
+pub comes-insert : (plan : List Taken) (i : ℕ) (t : Taken) → i ≤ length plan → AllComeFromOr plan t (insert plan i t)
+comes-insert plan i t within k below =
+    let long = length-insert plan i t within in
+    elim (cases_lt k i) [
+      | inl front ↦ inl (stays plan k _ (omega arith) (get_or-insert_below plan i t none k front within))
+      | inr rest ↦ behind (k - i) (omega arith)
+    ]
+  where
+    behind : (n : ℕ) → k ≡ i + n → ComesFrom plan (taken_at (insert plan i t) k) ⊎ Covers t (taken_at (insert plan i t) k)
+    behind zero e =
+        let here : k ≡ i = omega arith in
+        inr (same_path t _ (ap (λ (m : ℕ). taken_at (insert plan i t) m) here ∙ get_or-insert_at plan i t none within))
+    behind (suc n) e =
+        let long = length-insert plan i t within in
+        let here : k ≡ (i + n) + 1 = omega arith in
+        inl (stays plan (i + n) _ (omega (arith, long)) (ap (λ (m : ℕ). taken_at (insert plan i t) m) here ∙ get_or-insert_above plan i t none (i + n) (omega arith) within))
+
+pub comes-set : (plan : List Taken) (i : ℕ) (t path : Taken) → i < length plan → path ≡ get_or plan i path → AllComeFromOr plan t (set plan i (record { graph = path.graph; count = path.count + t.count; arcs = path.arcs }))
+comes-set plan i t path within is k below =
+    let more : Taken = record { graph = path.graph; count = path.count + t.count; arcs = path.arcs } in
+    let there : path ≡ taken_at plan i = is ∙ get_or_default plan i path none within in
+    elim (cases_eq k i) [
+      | inl here ↦ inl (i, within, subst (λ (u : Taken). Covers (taken_at plan i) u) (sym (ap (λ (m : ℕ). taken_at (set plan i more) m) here ∙ get_or-set_same plan i more none within)) (subst (λ (u : Taken). Covers u more) there (record { graph = refl; arcs = refl; count = omega arith })))
+      | inr other ↦ inl (stays plan k _ (let l = length-set plan i more in omega (arith, l)) (get_or-set_other plan i k more none other))
+    ]
+
+covers_trans : (t u v : Taken) → Covers t u → Covers u v → Covers t v
+covers_trans t u v a b =
+    record { graph = b.graph ∙ a.graph; arcs = b.arcs ∙ a.arcs; count = omega (arith, a.count, b.count) }
+
+-- each path of the new plan covers one of the first paths of the old
+abbrev pub ComeBelow : List Taken → ℕ → List Taken → Type 0
+ComeBelow plan i new = (k : ℕ) → k < length new → (j : ℕ) × (j < i) × Covers (taken_at plan j) (taken_at new k)
+
+-- a step of a loop over the paths of a plan
+pub come_more : (plan : List Taken) (i : ℕ) (t : Taken) (old new : List Taken) → i < length plan → t ≡ get_or plan i t → ComeBelow plan i old → AllComeFromOr old t new → ComeBelow plan (i + 1) new
+come_more plan i t old new below is before step k within = found (step k within)
+  where
+    found : ComesFrom old (taken_at new k) ⊎ Covers t (taken_at new k) → (j : ℕ) × (j < i + 1) × Covers (taken_at plan j) (taken_at new k)
+    found (inl (h, short, second)) =
+        let first = before h short in
+        (first.0, omega (arith, first.1), covers_trans (taken_at plan first.0) (taken_at old h) (taken_at new k) first.2 second)
+    found (inr covers) =
+        (i, omega arith, subst (λ (u : Taken). Covers u (taken_at new k)) (is ∙ get_or_default plan i t none below) covers)
+
+pub sums_more : (plan : List Taken) (i : ℕ) (t : Taken) (old new : List Taken) → i < length plan → t ≡ get_or plan i t → KeepsQuantities (take i plan) old → AddsPath old new t → KeepsQuantities (take (i + 1) plan) new
+sums_more plan i t old new below is before adds of_walk =
+    let f : Taken → ℕ = λ u. u.count * of_walk u.graph u.arcs in
+    let more = sum_by_more f plan i t below in
+    omega (arith, more, ap f is, before of_walk, adds of_walk)

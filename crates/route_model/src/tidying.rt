@@ -2,7 +2,7 @@ ghost use Rattle.std.specs.Prelude.{◌≡◌, ℕ, ◌+◌, ◌*◌, ◌<◌, �
 ghost use Rattle.std.specs.declared.cmp.Ordering.{Ordering};
 ghost use Rattle.route_model.specs.Parts.{taken_at};
 ghost use Rattle.route_model.specs.Quantities.{quantity, paths_of};
-ghost use Rattle.route_model.specs.Tidy.{walk_order, IsTidy, KeepsQuantities, AreFew, IsPlaceOf, AddsPath};
+ghost use Rattle.route_model.specs.Tidy.{walk_order, IsTidy, KeepsQuantities, AreFew, AllComeFrom, IsPlaceOf, AddsPath, AllComeFromOr};
 
 use crate::plan::{Plan, Taken};
 use path_graph::{List, NoMemory};
@@ -17,6 +17,7 @@ pub fn tidy(alloc: Global, plan: &Plan) -> Result<Plan, NoMemory>
     requires { AreFew plan.now.paths }
     ensures tidy { IfOk result (λ p. IsTidy p.paths) }
     ensures quantities { IfOk result (λ p. KeepsQuantities plan.now.paths p.paths) }
+    ensures walks { IfOk result (λ p. AllComeFrom plan.now.paths p.paths) }
 {
     let mut paths = Vec::new(alloc);
     for taken in plan.paths.as_slice() {
@@ -33,6 +34,7 @@ fn add_path(alloc: Global, paths: &mut Vec<Taken>, taken: &Taken) -> Result<(), 
     requires few { paths_of paths.old.items taken.now.graph + taken.now.count ≤ 4096 }
     ensures tidy { OnOk result (IsTidy paths.new.items) }
     ensures adds { OnOk result (AddsPath paths.old.items paths.new.items taken.now) }
+    ensures walks { OnOk result (AllComeFromOr paths.old.items taken.now paths.new.items) }
 {
     match place_of(paths.as_slice(), taken) {
         Ok(place) => {

@@ -1,0 +1,4 @@
+pub mod Ahead
+pub mod Partial
+pub mod Values
+pub mod Selection

@@ -1,0 +1,24 @@
+use thiserror::Error;
+
+/// A read or a write that failed.
+#[derive(Clone, Copy, Debug, PartialEq, Eq, Error)]
+#[error("a read or a write failed")]
+pub struct Failed;
+
+/// Why the input can't be had.
+#[derive(Clone, Copy, Debug, PartialEq, Eq, Error)]
+pub enum ReadFault {
+    #[error("a read failed")]
+    Read,
+    #[error("the input is too long")]
+    TooLong,
+    #[error("no memory for the input")]
+    Memory,
+}
+
+/// Why the output can't be written.
+#[derive(Clone, Copy, Debug, PartialEq, Eq, Error)]
+pub enum WriteFault {
+    #[error("a write failed")]
+    Write,
+}
