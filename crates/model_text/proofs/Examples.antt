@@ -1,5 +1,5 @@
 -- Worked rows, proved by computing.
-use Rattle.std.proofs.Common.{◌≡◌, ℕ, ℤ, pos, negsuc, neg_ℤ, List, [], ◌∷◌, ◌++◌, Option, None, Some, refl}
+use Rattle.std.proofs.Common.{◌≡◌, ℕ, ℤ, pos, neg_ℤ, List, [], ◌∷◌, ◌++◌, Option, None, Some, refl}
 use Rattle.std.specs.Prelude.{codes}
 use Rattle.std.specs.Fmt.{digits}
 use Rattle.path_graph.specs.declared.parts.Window.{Window}
@@ -11,7 +11,8 @@ use Rattle.route_model.specs.declared.plan.Taken.{Taken}
 use Rattle.route_model.specs.Parts.{ModelParts}
 use Rattle.model_text.specs.Lines.{path_line}
 use Rattle.model_text.specs.ModelText.{model_text}
-use Rattle.model_text.specs.Guess.{guess_of, parts_of}
+use Rattle.model_text.specs.Guess.{parts_of}
+use Rattle.model_text.specs.Bytes.{guess_of}
 
 abbrev var : ℤ → ℤ → ℤ → Var
 var low high cost = record { low = low; high = high; cost = cost }

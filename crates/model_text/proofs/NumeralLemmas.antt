@@ -1,5 +1,5 @@
 -- A printed number is read as that number.
-use Rattle.std.proofs.Common.{◌≡◌, ℕ, suc, ◌+◌, ◌-◌, ◌*◌, ◌%◌, ◌^◌, ◌<◌, ◌≤◌, ℤ, pos, negsuc, neg_ℤ, Bool, true, false, ◌&&◌, nat_le, List, [], ◌∷◌, fold, Option, None, Some, refl, ap, sym, ◌∙◌, arith, cond, if◌then◌else◌, length}
+use Rattle.std.proofs.Common.{◌≡◌, ℕ, suc, ◌+◌, ◌-◌, ◌*◌, ◌%◌, ◌^◌, ◌<◌, ◌≤◌, ℤ, pos, negsuc, neg_ℤ, Bool, true, false, nat_le, List, [], ◌∷◌, fold, Option, Some, refl, ap, ◌∙◌, arith, length}
 use Rattle.std.specs.Prelude.{◌==◌}
 use lib.Signed.{mag}
 use Rattle.std.specs.Fmt.{decimal, signed_decimal}
@@ -9,7 +9,7 @@ use Rattle.std.proofs.lemmas.Str.Parse.{digit_from_value}
 use Rattle.std.proofs.lemmas.Bool.Decides.{nat_tests}
 use Rattle.std.proofs.lemmas.Fmt.{decimal_is_IsNumeral}
 use Rattle.model_text.specs.declared.reading.Numeral.{Numeral}
-use Rattle.model_text.specs.Guess.{numeral_after, no_numeral, number_of}
+use Rattle.model_text.specs.Bytes.{numeral_after, no_numeral, number_of}
 
 -- neither a blank nor LF nor a letter
 abbrev pub ArePlain : List ℕ → Type 0

@@ -1,12 +1,10 @@
 -- Whatever the bytes, the guess has one main resource and no secondary one.
-use Rattle.std.proofs.Common.{◌≡◌, ℕ, Bool, true, false, cond, List, [], ◌∷◌, ◌++◌, length, fold, Option, refl, ℤ, nat_le}
-use Rattle.std.specs.Prelude.{All, ◌==◌}
-use Rattle.std.proofs.lemmas.List.Elements.{All-nil, All-push}
-use Rattle.path_graph.specs.declared.parts.Vertex.{Vertex}
-use Rattle.path_graph.specs.declared.parts.GraphArc.{GraphArc}
+use Rattle.std.proofs.Common.{ℕ, Bool, true, false, cond, List, [], ◌∷◌, length, fold, Option, refl, ℤ, nat_lt}
+use Rattle.std.specs.Prelude.{◌==◌, ◌&&◌}
 use Rattle.model_text.specs.declared.guess.Guess.{Guess}
 use Rattle.model_text.specs.declared.reading.Reading.{Reading}
-use Rattle.model_text.specs.Guess.{no_parts, line_begun, line_ended, word_ended, byte_read, reading_after, parts_after, guess_of, vertex_of, arc_of}
+use Rattle.model_text.specs.Guess.{no_parts, parts_after}
+use Rattle.model_text.specs.Bytes.{line_begun, line_ended, word_ended, byte_read, reading_after, guess_of}
 use Rattle.model_text.proofs.GraphLemmas.{IsSingle}
 
 abbrev IsSmall : Guess → Type 0
@@ -22,7 +20,7 @@ line_keeps g letter words small =
     (cond_keeps IsSmall (letter == 119) _ _ small
     (cond_keeps IsSmall (letter == 104) _ _ (record { mains = refl; seconds = refl })
     (cond_keeps IsSmall (letter == 120) _ _ small
-    (cond_keeps IsSmall (letter == 99) _ _ small small))))
+    (cond_keeps IsSmall (letter == 99 && nat_lt (length g.arcs) 60000) _ _ small small))))
 
 byte_keeps : (r : Reading) (b : ℕ) → IsSmall r.parts → IsSmall (reading_after r b).parts
 byte_keeps r b small =

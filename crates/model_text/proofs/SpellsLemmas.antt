@@ -1,6 +1,5 @@
 -- What a text spells, and what it does not, by its guess.
-use Rattle.std.proofs.Common.{◌≡◌, ℕ, List, [], ◌∷◌, length, refl, ap, subst, sym, ◌∙◌}
-use Rattle.std.specs.Prelude.{All}
+use Rattle.std.proofs.Common.{◌≡◌, ℕ, List, [], refl, ap, subst, sym, ◌∙◌}
 use Rattle.std.proofs.lemmas.List.Elements.{All-head}
 use Rattle.path_graph.specs.Fit.{PartsFit}
 use Rattle.path_graph.specs.Within.{ConsumesBeforeSink}
@@ -11,7 +10,8 @@ use Rattle.model_text.specs.declared.kind.ReadError.TheVariants.{Text, Memory}
 use Rattle.model_text.specs.declared.guess.Guess.{Guess}
 use Rattle.model_text.specs.ModelText.{model_text}
 use Rattle.model_text.specs.SmallForm.{IsSmallForm, Spells, SpellsNothing, IsUnbuiltWhere}
-use Rattle.model_text.specs.Guess.{guess_of, parts_of}
+use Rattle.model_text.specs.Guess.{parts_of}
+use Rattle.model_text.specs.Bytes.{guess_of}
 use Rattle.model_text.proofs.TextLemmas.{guess_back}
 use Rattle.model_text.proofs.SmallLemmas.{guess_is_small}
 

@@ -1,5 +1,5 @@
--- The parts that a text may be of: a reading that asks nothing of the bytes. Only the printed text decides.
-use Rattle.std.specs.Prelude.{ℕ, ◌+◌, ◌-◌, ◌*◌, ◌%◌, ℤ, pos, negsuc, neg_ℤ, unsigned_abs, Bool, true, false, ◌&&◌, ◌==◌, nat_le, if◌then◌else◌, List, [], ◌∷◌, ◌++◌, map, drop, fold, slice_index_or, Option, None, Some, unwrap_or}
+-- The parts that lines may tell: a guess that asks nothing of their words. Only the printed text decides.
+use Rattle.std.specs.Prelude.{ℕ, ℤ, pos, negsuc, unsigned_abs, ◌&&◌, ◌==◌, nat_le, nat_lt, if◌then◌else◌, List, [], ◌∷◌, ◌++◌, length, map, drop, slice_index_or, Option, None, Some, unwrap_or}
 use Rattle.path_graph.specs.declared.parts.Window.{Window}
 use Rattle.path_graph.specs.declared.parts.Vertex.{Vertex}
 use Rattle.path_graph.specs.declared.parts.GraphArc.{GraphArc}
@@ -9,30 +9,6 @@ use Rattle.route_model.specs.declared.parts.RowTerm.{RowTerm}
 use Rattle.route_model.specs.declared.parts.Row.{Row}
 use Rattle.route_model.specs.Parts.{ModelParts}
 use Rattle.model_text.specs.declared.guess.Guess.{Guess}
-use Rattle.model_text.specs.declared.reading.Numeral.{Numeral}
-use Rattle.model_text.specs.declared.reading.Reading.{Reading}
-
--- a numeral after one more byte of its word
-abbrev pub numeral_after : Numeral → ℕ → Numeral
-numeral_after w b =
-    if b == 45 then record w { minus = true } else
-    (if nat_le 48 b && nat_le b 57
-    then record { minus = w.minus; digit = true; size = w.size % 100000000000000000 * 10 + (b - 48) } else w)
-
--- the numeral before the first byte of a word
-abbrev pub no_numeral : Numeral
-no_numeral = record { minus = false; digit = false; size = 0 }
-
--- the number of a word, none where it has no digit
-abbrev pub number_of : Numeral → Option ℤ
-number_of w =
-    if w.digit
-    then Some (if w.minus then neg_ℤ (pos (w.size % 1000000000000000000)) else pos (w.size % 1000000000000000000))
-    else None
-
--- the last letter of a line after one more byte
-abbrev pub letter_after : ℕ → ℕ → ℕ
-letter_after letter b = if nat_le 97 b && nat_le b 122 then b else letter
 
 -- the number of a word of a line, the first word counted, and that number at a smaller type
 abbrev pub word_at : List (Option ℤ) → ℕ → Option ℤ
@@ -54,6 +30,10 @@ name_of (Some (pos n)) = if nat_le n 1000000000 then n else 0
 
 abbrev pub name_at : List (Option ℤ) → ℕ → ℕ
 name_at words k = name_of (word_at words k)
+
+-- an item put last, where there are fewer than so many
+abbrev pub put_within : {X : Type 0} → ℕ → List X → X → List X
+put_within limit xs x = if nat_lt (length xs) limit then xs ++ x ∷ [] else xs
 
 -- a variable of the words of its line, and so on
 abbrev pub var_of : List (Option ℤ) → Var
@@ -98,35 +78,20 @@ arc_of words =
       needs = small_at words 3 ∷ pos 0 ∷ pos 0 ∷ pos 0 ∷ pos 0 ∷ pos 0 ∷ [];
     }
 
--- the parts after one more line, which goes by the last letter of its first word:
+-- one more arc, with its variables
+abbrev pub with_arc : Guess → List (Option ℤ) → Guess
+with_arc g words =
+    record g { arcs = g.arcs ++ arc_of words ∷ []; maps = g.maps ++ map name_of (drop 4 words) ∷ [] }
+
+-- the parts after one more line, within the limits of a model. The line goes by the last letter of its first word:
 -- var, row, graph, vertex and arc
 abbrev pub parts_after : Guess → ℕ → List (Option ℤ) → Guess
 parts_after g letter words =
-    if letter == 114 then record g { vars = g.vars ++ var_of words ∷ [] } else
-    (if letter == 119 then record g { rows = g.rows ++ row_of words ∷ [] } else
+    if letter == 114 then record g { vars = put_within 30000 g.vars (var_of words) } else
+    (if letter == 119 then record g { rows = put_within 5000 g.rows (row_of words) } else
     (if letter == 104 then record g { ends = ends_of words } else
-    (if letter == 120 then record g { vertices = g.vertices ++ vertex_of words ∷ [] } else
-    (if letter == 99
-    then record g { arcs = g.arcs ++ arc_of words ∷ []; maps = g.maps ++ map name_of (drop 4 words) ∷ [] }
-    else g))))
-
--- the words of a line after one more, which is ended by a blank or by LF
-abbrev pub word_ended : Reading → Reading
-word_ended r = record r { words = r.words ++ number_of r.numeral ∷ []; numeral = no_numeral }
-
--- the beginning of a line after these parts
-abbrev pub line_begun : Guess → Reading
-line_begun parts = record { parts = parts; letter = 0; words = []; numeral = no_numeral }
-
-abbrev pub line_ended : Reading → Reading
-line_ended r = line_begun (parts_after r.parts r.letter (word_ended r).words)
-
-abbrev pub byte_read : Reading → ℕ → Reading
-byte_read r b = record r { letter = letter_after r.letter b; numeral = numeral_after r.numeral b }
-
--- the reading after one more byte
-abbrev pub reading_after : Reading → ℕ → Reading
-reading_after r b = if b == 10 then line_ended r else (if b == 32 then word_ended r else byte_read r b)
+    (if letter == 120 then record g { vertices = put_within 1024 g.vertices (vertex_of words) } else
+    (if letter == 99 && nat_lt (length g.arcs) 60000 then with_arc g words else g))))
 
 abbrev pub no_parts : Guess
 no_parts =
@@ -138,10 +103,6 @@ no_parts =
       arcs = [];
       maps = [];
     }
-
--- the parts of the lines of a text
-abbrev pub guess_of : List ℕ → Guess
-guess_of bytes = (fold reading_after (line_begun no_parts) bytes).parts
 
 -- those parts as a model of one graph without sets
 abbrev pub parts_of : Guess → ModelParts

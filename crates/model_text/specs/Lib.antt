@@ -3,3 +3,4 @@ pub mod ModelText
 pub mod SmallForm
 pub mod Kinds
 pub mod Guess
+pub mod Bytes

@@ -1,7 +1,6 @@
 -- Lines and words in printed form.
-use Rattle.std.specs.Prelude.{ℕ, ℤ, List, [], ◌∷◌, ◌++◌, Option, None, Some, decimal, map, codes}
+use Rattle.std.specs.Prelude.{ℕ, List, [], ◌∷◌, ◌++◌, decimal, map, codes}
 use Rattle.std.specs.List.{flat_map}
-use Rattle.std.specs.Fmt.{signed_decimal}
 use Rattle.route_model.specs.declared.plan.Taken.{Taken}
 
 -- a word, more words with one blank before each, and LF

@@ -1,6 +1,6 @@
 -- The printed text of a model.
-use Rattle.std.specs.Prelude.{ℕ, ℤ, List, [], ◌∷◌, ◌++◌, Option, None, Some, decimal, map, codes, length, take, drop, ◌==◌, if◌then◌else◌, MatchOption}
-use Rattle.std.specs.List.{flat_map, zip, enumerate_from}
+use Rattle.std.specs.Prelude.{ℕ, ℤ, List, [], ◌∷◌, ◌++◌, Option, None, Some, decimal, map, codes, length, take, drop, ◌==◌, if◌then◌else◌}
+use Rattle.std.specs.List.{flat_map, zip}
 use Rattle.std.specs.Fmt.{signed_decimal}
 use Rattle.path_graph.specs.declared.parts.Window.{Window}
 use Rattle.path_graph.specs.declared.parts.Vertex.{Vertex}
@@ -10,7 +10,7 @@ use Rattle.path_graph.specs.Walk.{GraphParts}
 use Rattle.route_model.specs.declared.parts.Var.{Var}
 use Rattle.route_model.specs.declared.parts.RowTerm.{RowTerm}
 use Rattle.route_model.specs.declared.parts.Row.{Row}
-use Rattle.route_model.specs.Parts.{ModelParts, maps_in}
+use Rattle.route_model.specs.Parts.{ModelParts}
 use Rattle.model_text.specs.Lines.{line}
 
 -- `var LOW HIGH COST`

@@ -1,5 +1,5 @@
 ghost use Rattle.std.specs.Prelude.{◌≡◌, ◌<◌, ◌++◌, drop, map, OnOk, IfOk, unwrap_or};
-ghost use Rattle.model_text.specs.Guess.{word_at, long_at, small_of, small_at, name_of, name_at, var_of, terms_of, row_of, ends_of, vertex_of, arc_of};
+ghost use Rattle.model_text.specs.Guess.{word_at, long_at, small_of, small_at, name_of, name_at, put_within, var_of, terms_of, row_of, ends_of, vertex_of, arc_of};
 
 use path_graph::{Ends, GraphArc, List, NoMemory, Vertex, Window};
 use route_model::{Row, RowTerm, Var};
@@ -164,8 +164,18 @@ fn names_of(alloc: Global, words: &[Option<i64>]) -> Result<List<u32>, NoMemory>
     Ok(names)
 }
 
+/// Puts an item last where there are fewer than so many, so that a text with too many lines takes no more memory.
+pub fn push_within<T: Drop>(list: &mut List<T>, limit: usize, item: T) -> Result<(), NoMemory>
+    ensures { OnOk result (list.new ≡ put_within limit list.old item) }
+{
+    if list.len() < limit {
+        return list.push(item);
+    }
+    Ok(())
+}
+
 impl Guess {
-    ghost use Rattle.model_text.specs.Guess.{no_parts, parts_after};
+    ghost use Rattle.model_text.specs.Guess.{no_parts, with_arc, parts_after};
 
     /// The parts that no line tells.
     pub fn new(alloc: Global) -> Guess
@@ -190,7 +200,7 @@ impl Guess {
 
     /// Takes an arc and its variables.
     fn take_arc(&mut self, alloc: Global, words: &[Option<i64>]) -> Result<(), NoMemory>
-        ensures { OnOk result (self.new ≡ parts_after self.old 99 words.now) }
+        ensures { OnOk result (self.new ≡ with_arc self.old words.now) }
     {
         self.arcs.push(arc_of(words))?;
         self.maps.push(names_of(alloc, words_from(words, 4))?)
@@ -206,19 +216,20 @@ impl Guess {
         ensures { OnOk result (self.new ≡ parts_after self.old letter words.now) }
     {
         if letter == b'r' {
-            return self.vars.push(var_of(words));
+            return push_within(&mut self.vars, 30_000, var_of(words));
         }
         if letter == b'w' {
-            return self.rows.push(row_of(alloc, words)?);
+            let row = row_of(alloc, words)?;
+            return push_within(&mut self.rows, 5_000, row);
         }
         if letter == b'h' {
             self.ends = ends_of(words);
             return Ok(());
         }
         if letter == b'x' {
-            return self.vertices.push(vertex_of(words));
+            return push_within(&mut self.vertices, 1_024, vertex_of(words));
         }
-        if letter == b'c' {
+        if letter == b'c' && self.arcs.len() < 60_000 {
             return self.take_arc(alloc, words);
         }
         Ok(())

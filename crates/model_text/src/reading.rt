@@ -1,7 +1,8 @@
 ghost use Rattle.std.specs.Prelude.{◌≡◌, OnOk, IfOk};
-ghost use Rattle.model_text.specs.Guess.{numeral_after, no_numeral, number_of, letter_after, word_ended, line_begun, line_ended, reading_after, no_parts, guess_of};
+ghost use Rattle.model_text.specs.Guess.{no_parts};
+ghost use Rattle.model_text.specs.Bytes.{numeral_after, no_numeral, number_of, letter_after, word_ended, line_begun, line_ended, reading_after, guess_of};
 
-use crate::guess::Guess;
+use crate::guess::{Guess, push_within};
 use path_graph::{List, NoMemory};
 use std::alloc::Global;
 
@@ -93,7 +94,7 @@ impl Reading {
     fn end_word(&mut self) -> Result<(), NoMemory>
         ensures { OnOk result (self.new ≡ word_ended self.old) }
     {
-        self.words.push(number_of(self.numeral))?;
+        push_within(&mut self.words, 2_097_152, number_of(self.numeral))?;
         self.numeral = no_numeral();
         Ok(())
     }

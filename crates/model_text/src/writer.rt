@@ -61,7 +61,8 @@ impl LineWriter {
 
     /// Writes numbers as further words of a line.
     pub fn numbers<I: Integer>(&mut self, numbers: &[I]) -> Result<(), NoMemory>
-        ensures { OnOk result (self.new ≡ self.old ++ flat_map (λ n. 32 ∷ I.text n) numbers.now) }
+        ensures { OnOk result
+            (self.new ≡ self.old ++ flat_map (λ n. 32 ∷ I.text n) numbers.now) }
     {
         for number in numbers {
             self.number(*number)?;

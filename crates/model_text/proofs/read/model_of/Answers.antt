@@ -1,9 +1,7 @@
-use Rattle.std.proofs.Common.{subst, sym}
 use Rattle.std.proofs.lemmas.Result.{err_from_is_err_and}
 use Rattle.path_graph.specs.Fit.{PartsFit}
 use Rattle.path_graph.specs.Within.{ConsumesBeforeSink}
 use Rattle.route_model.specs.Fit.{IsModel}
-use Rattle.model_text.specs.SmallForm.{IsUnbuiltWhere}
 use Rattle.model_text.specs.Guess.{parts_of}
 use Rattle.model_text.proofs.SpellsLemmas.{IsUnbuiltWhere-weaker, no_model}
 use Rattle.model_text.proofs.read.model_of.Goals as goal

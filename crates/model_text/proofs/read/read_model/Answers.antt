@@ -5,7 +5,7 @@ use Rattle.std.proofs.lemmas.Result.{err_from_is_err_and}
 use Rattle.path_graph.specs.Within.{ConsumesBeforeSink}
 use Rattle.route_model.specs.Fit.{IsModel}
 use Rattle.model_text.specs.ModelText.{model_text}
-use Rattle.model_text.specs.SmallForm.{SpellsNothing, IsUnbuiltWhere}
+use Rattle.model_text.specs.SmallForm.{SpellsNothing}
 use Rattle.model_text.specs.Guess.{parts_of}
 use Rattle.model_text.proofs.SpellsLemmas.{IsUnbuiltWhere-weaker, nothing_spelled, not_printed, spelled_is, guess_spelled}
 use Rattle.model_text.proofs.read.read_model.Goals as goal
