@@ -1,5 +1,5 @@
 -- Lemmas on the endings of a run.
-use Rattle.std.proofs.Common.{◌≡◌, ℕ, ◌+◌, ◌≤◌, List, [], ◌∷◌, length, Option, IfSome, IsTrue, Bool, map, get_or, arith, sym, ◌∙◌, ap, subst, ℤ, w64, to_z, of_z, FitsSigned}
+use Rattle.std.proofs.Common.{◌≡◌, ℕ, ◌≤◌, List, [], ◌∷◌, length, Option, IsTrue, Bool, map, get_or, arith, sym, ◌∙◌, ap, subst, ℤ}
 use Rattle.std.specs.Prelude.{codes}
 use Rattle.std.specs.Fmt.{decimal, digits}
 use Rattle.std.specs.Str.{bytes_eq}

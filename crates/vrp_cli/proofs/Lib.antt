@@ -6,4 +6,5 @@ pub mod PlanLemmas
 pub mod ChoiceLemmas
 pub mod ExchangeLemmas
 pub mod EndingLemmas
+pub mod ClauseLemmas
 pub mod MergeLemmas

@@ -62,6 +62,21 @@ pub fn run_vrp<R: Threads + Sync, S: Source, K: Sink, G: Gate + Sync>(
         → (Rose (K.faults sink.old) (K.faults sink.new) → ⊥)
         → (result.number ≡ 9) ⊎ IfSome (S.left source.old) (IsDue result.number) }
 {
+    answer_words(alloc, words, source, sink)
+}
+
+/// Finds the answer to the words and the input, and writes it.
+fn answer_words<S: Source, K: Sink>(
+    alloc: Global,
+    words: &[String],
+    source: &mut S,
+    sink: &mut K,
+) -> Status
+    ensures run { Runs (map string_bytes words.now)
+        (S.left source.old) (S.left source.new) (S.faults source.old) (S.faults source.new)
+        (K.written sink.old) (K.written sink.new) (K.faults sink.old) (K.faults sink.new) result.number }
+    ensures unread { (AreTaken (map string_bytes words.now) → ⊥) → source.new ≡ source.old }
+{
     let answer = decide(alloc, words, source);
     match write_all(sink, answer.text()) {
         Ok(()) => Status {

@@ -1,4 +1,3 @@
-use Rattle.std.proofs.Common.{[], ◌∷◌}
 use Rattle.std.specs.Prelude.{string_bytes, codes}
 use Rattle.vrp_cli.proofs.EndingLemmas.{one_word}
 use Rattle.vrp_cli.proofs.run.are_taken.Goals as goal

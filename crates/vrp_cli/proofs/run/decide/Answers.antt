@@ -1,4 +1,4 @@
-use Rattle.std.proofs.Common.{List, ℕ, map, refl, subst, sym}
+use Rattle.std.proofs.Common.{List, ℕ, map, refl, subst}
 use Rattle.std.specs.Prelude.{string_bytes}
 use Rattle.vrp_cli.specs.Headline.{words_refused, read_failed, no_memory, too_long}
 use Rattle.vrp_cli.specs.Answer.{AnswersInput}
@@ -17,16 +17,16 @@ pub returns-in-Ok-clause-answers : goal.returns-in-Ok-clause-answers
 returns-in-Ok-clause-answers g c = no_memory (c.if-not-are_taken.ensures.0 refl) (c.in-Ok.ensures.short (λ e. cc)) (c.in-Ok.ensures.kept (λ e. cc))
 
 pub returns-in-Err-Read-clause-answers : goal.returns-in-Err-Read-clause-answers
-returns-in-Err-Read-clause-answers g c = 
+returns-in-Err-Read-clause-answers g c =
     let read = rw c.in-Err-Read.field-0-is at c.in-Err-Read.ensures in
     read_failed (c.if-not-are_taken.ensures.0 refl) (read.read refl)
 
 pub returns-in-Err-TooLong-clause-answers : goal.returns-in-Err-TooLong-clause-answers
-returns-in-Err-TooLong-clause-answers g c = 
+returns-in-Err-TooLong-clause-answers g c =
     let read = rw c.in-Err-TooLong.field-0-is at c.in-Err-TooLong.ensures in
     too_long (c.if-not-are_taken.ensures.0 refl) (read.long refl) (read.kept (λ e. cc))
 
 pub returns-clause-answers : goal.returns-clause-answers
-returns-clause-answers g c = 
+returns-clause-answers g c =
     let read = rw c.in-Err-Memory.field-0-is at c.in-Err-Memory.ensures in
     no_memory (c.if-not-are_taken.ensures.0 refl) (read.short (λ e. cc)) (read.kept (λ e. cc))

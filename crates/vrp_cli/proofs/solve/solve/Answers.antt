@@ -1,4 +1,4 @@
-use Rattle.std.proofs.Common.{[], ◌∷◌, ap, ◌∙◌, ℤ, FitsSigned, w64, rules}
+use Rattle.std.proofs.Common.{ap, ◌∙◌, ℤ, FitsSigned, w64, rules}
 use Rattle.std.proofs.lemmas.Int.{to_z-of_z}
 use Rattle.vrp_cli.specs.Headline.{optimal_text}
 use Rattle.vrp_cli.proofs.EndingLemmas.{tells_least, refusal_told}
