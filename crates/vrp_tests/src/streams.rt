@@ -1,0 +1,103 @@
+//! Faults of reading and writing, input that is too long, and runs over files.
+
+use crate::running::{Streams, run, words_of};
+use crate::texts;
+use std::fs;
+use std::fs::File;
+use std::test::Fail;
+use vrp_cli::run_vrp;
+use vrp_io::{NoGate, StdSink, StdSource, write_all};
+
+#[test]
+fn faults(rt: HostRuntime) -> Result<(), Fail> {
+    let none: &[u32] = &[];
+    for (name, read_piece, failing_reads, write_piece, failing_writes, number, text) in [
+        (
+            "the third read fails",
+            100,
+            [3].as_slice(),
+            1_000,
+            none,
+            7,
+            "fault read\n",
+        ),
+        (
+            "the second write fails",
+            1_000,
+            none,
+            10,
+            [2].as_slice(),
+            8,
+            "optimal 9\n",
+        ),
+        (
+            "the first write fails",
+            1_000,
+            none,
+            10,
+            [1].as_slice(),
+            8,
+            "",
+        ),
+        (
+            "small pieces",
+            1,
+            none,
+            1,
+            none,
+            0,
+            "optimal 9\npath 0 1 0 2 5\n",
+        ),
+    ] {
+        let streams = Streams {
+            read_piece,
+            failing_reads,
+            write_piece,
+            failing_writes,
+        };
+        let ended = run(&rt, rt.alloc(), "solve", texts::FOUR.as_bytes(), streams)?;
+        assert_eq!(rt; ended.number, number, "{name}");
+        assert_eq!(rt; ended.sink.written(), text.as_bytes(), "{name}");
+    }
+    Ok(())
+}
+
+#[test]
+fn input_too_long(rt: HostRuntime) -> Result<(), Fail> {
+    let blanks = vec![in rt.alloc(); b' '; 67_108_865]?;
+    let streams = Streams {
+        read_piece: 1_000_000,
+        failing_reads: &[],
+        write_piece: 1_000,
+        failing_writes: &[],
+    };
+    let ended = run(&rt, rt.alloc(), "solve", blanks.as_slice(), streams)?;
+    assert_eq!(rt; ended.number, 10);
+    assert_eq!(rt;
+        ended.sink.written(),
+        b"refused input too long\n".as_slice()
+    );
+    Ok(())
+}
+
+#[test]
+fn files(rt: HostRuntime) -> Result<(), Fail> {
+    let mut model = StdSink::new(fs::create(&rt, "model")?);
+    let wrote = write_all(&mut model, texts::FOUR.as_bytes());
+    assert!(rt; wrote.is_ok());
+    let words = words_of(rt.alloc(), "solve")?;
+    let mut source = StdSource::new(File::open(&rt, "model")?);
+    let mut sink = StdSink::new(fs::create(&rt, "answer")?);
+    let status = run_vrp(
+        &rt,
+        rt.alloc(),
+        words.as_slice(),
+        &mut source,
+        &mut sink,
+        &NoGate,
+    );
+    assert_eq!(rt; status.number, 0);
+    let answer = fs::read_to_string(&rt, "answer")?;
+    assert_eq!(rt; answer.as_str(), "optimal 9\npath 0 1 0 2 5\n");
+    Ok(())
+}
