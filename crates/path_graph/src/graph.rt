@@ -3,12 +3,14 @@ ghost use Rattle.path_graph.specs.Fit.{vertex_at, PartsFit};
 ghost use Rattle.path_graph.specs.Walk.{arc_at, IsGraph};
 ghost use Rattle.path_graph.specs.Within.{ConsumesBeforeSink};
 
-use crate::list::{List, NoMemory};
+use crate::list::List;
 use crate::parts::{Ends, GraphArc, Values, Vertex};
 use std::alloc::Global;
 use std::marker::Model;
 
-/// A directed graph whose walks are bounded by resources.
+/// A directed graph whose walks from the source to the sink are bounded by resources.
+///
+/// Contracts see it as its parts, which fit.
 #[derive(Drop)]
 pub struct Graph {
     ends: Ends,
@@ -28,21 +30,17 @@ impl Model for Graph {
     ghost invariant = { λ g. PartsFit g.ends g.vertices.items g.arcs.items };
 }
 
-/// Why a graph can't be made.
+/// Why a graph can't be made of parts that fit.
 #[derive(Debug, Drop)]
 pub enum GraphFault {
+    /// Arcs without main consumption form a cycle: its arcs, in order. It does not come yet, since `Graph::new`
+    /// requires that each arc that does not enter the sink consumes some of the main resource.
     FreeCycle(List<u32>),
     Memory,
 }
 
-impl From<NoMemory> for GraphFault {
-    fn from(_error: NoMemory) -> GraphFault {
-        GraphFault::Memory
-    }
-}
-
 impl Graph {
-    /// The graph of the parts.
+    /// The graph of the parts, of which it keeps copies.
     pub fn new(
         alloc: Global,
         ends: Ends,
@@ -67,7 +65,7 @@ impl Graph {
         })
     }
 
-    /// The ends.
+    /// The source, the sink, the path bounds and the numbers of resources.
     pub fn ends(&self) -> Ends
         ensures ends { result ≡ self.now.ends }
         ensures fits { IsGraph self.now }
@@ -89,7 +87,7 @@ impl Graph {
         self.arcs.len() as u32
     }
 
-    /// A vertex.
+    /// A vertex, by number.
     pub fn vertex(&self, v: u32) -> Vertex
         requires { v < length self.now.vertices }
         ensures vertex { result ≡ vertex_at self.now.vertices v }
@@ -98,7 +96,7 @@ impl Graph {
         self.vertices[v as usize]
     }
 
-    /// An arc.
+    /// An arc, by number.
     pub fn arc(&self, a: u32) -> GraphArc
         requires { a < length self.now.arcs }
         ensures arc { result ≡ arc_at self.now.arcs a }

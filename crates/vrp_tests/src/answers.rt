@@ -41,6 +41,14 @@ fn answers(rt: HostRuntime) -> Result<(), Fail> {
             0,
             "optimal 12\npath 0 1 1 3 4\n",
         ),
+        // -3 + 2 + 4 by the first vertex and then the second.
+        (
+            "an arc that pays",
+            "solve",
+            texts::PAYS_FIRST,
+            0,
+            "optimal 3\npath 0 1 0 2 5\n",
+        ),
         (
             "a row that no plan meets",
             "solve",

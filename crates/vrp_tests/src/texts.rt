@@ -118,6 +118,30 @@ arc 2 3 0 5
 end
 ";
 
+/// Four vertices, where the arc from the source to the first pays 3.
+pub const PAYS_FIRST: &str = "vrpmodel 1
+var 0 2 -3
+var 0 2 4
+var 0 2 2
+var 0 2 5
+var 0 2 3
+var 0 2 4
+row 1 1 0 1 3 1
+row 1 1 1 1 2 1
+graph 4 0 3 0 2 1 0
+vertex - 0 2
+vertex - 0 2
+vertex - 0 2
+vertex - 0 2
+arc 0 1 1 0
+arc 0 2 1 1
+arc 1 2 1 2
+arc 2 1 1 3
+arc 1 3 0 4
+arc 2 3 0 5
+end
+";
+
 /// Four vertices, where the first is to be visited five times, which the boxes don't allow.
 pub const UNMET: &str = "vrpmodel 1
 var 0 2 3
