@@ -1,6 +1,9 @@
 //! The program `vrp`: the words after its name, standard input, and standard output.
 #![tactic(auto)]
 
+ghost use Rattle.std.specs.Prelude.{◌≡◌};
+ghost use Rattle.std.specs.Process.{exit_status};
+
 use std::io::ErrorKind;
 use std::process::ExitCode;
 use std::rt::{Env, Runtime};
@@ -24,10 +27,9 @@ fn words<R: Env + AllocGlobal>(rt: &R) -> io::Result<Vec<String>> {
 }
 
 /// A word that is no text is not taken. Where there is no memory for the words, nothing is written.
-fn run_without_words<R: Runtime + AllocGlobal + Threads + Sync>(
-    rt: &R,
-    kind: ErrorKind,
-) -> ExitCode {
+fn run_without_words<R: Runtime + AllocGlobal + Threads + Sync>(rt: &R, kind: ErrorKind) -> ExitCode
+    ensures { kind ≡ ErrorKind.OutOfMemory → exit_status result ≡ 9 }
+{
     if kind == ErrorKind::OutOfMemory {
         return ExitCode::from(9);
     }
