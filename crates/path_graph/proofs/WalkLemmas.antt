@@ -1,4 +1,4 @@
-use Rattle.std.proofs.Common.{◌≡◌, ℕ, ◌<◌, ◌+◌, inl, inr, ℤ, pos, ◌≤ℤ◌, ◌+ℤ◌, List, ◌∷◌, length, get_or, drop, sym, ◌∙◌, ap, subst, arith, suc, zero, Bool, true, false, nat_lt}
+use Rattle.std.proofs.Common.{◌≡◌, ℕ, ◌<◌, ◌+◌, inl, inr, ℤ, pos, ◌≤ℤ◌, ◌+ℤ◌, List, [], ◌∷◌, ◌++◌, length, get_or, drop, refl, sym, ◌∙◌, ap, subst, arith, suc, zero, Bool, true, false, nat_lt}
 use Rattle.std.proofs.lemmas.Int.{ints, clamps}
 use Rattle.std.proofs.lemmas.Bool.{cases_lt}
 use Rattle.std.proofs.lemmas.List.{get_or_past, drop_more}
@@ -9,7 +9,7 @@ use Rattle.path_graph.specs.declared.parts.GraphArc.{GraphArc}
 use Rattle.path_graph.specs.declared.parts.Ends.{Ends}
 use Rattle.path_graph.specs.declared.parts.Values.{Values}
 use Rattle.path_graph.specs.Fit.{int_at, window_at, vertex_at, VertexFits, ArcFits, WindowFits, NeedFits, WindowsFit, is_used_at}
-use Rattle.path_graph.specs.Walk.{GraphParts, IsGraph, arc_at, Leads, Passes, Takes, over_of, moved, AreBelow, root_of, IsFeasibleWalk}
+use Rattle.path_graph.specs.Walk.{GraphParts, IsGraph, arc_at, Leads, Passes, Takes, over_of, moved, AreBelow, root_of, values_at_end, IsFeasibleWalk}
 use Rattle.path_graph.specs.Within.{AreWithin, IsInLimits, AreInLimits}
 
 -- what holds at each position holds below 6
@@ -49,7 +49,7 @@ windows_small ends ws k h =
 pub small_needs : (g : GraphParts) (a : ℕ) → IsGraph g → a < length g.arcs → AreInLimits (arc_at g.arcs a).needs
 small_needs g a fit within k below =
     let arc = arc_at g.arcs a in
-    let fits : ArcFits g.ends (length g.vertices) arc = fit.each_arc a _ within in
+    let fits : ArcFits g.ends (length g.vertices) arc = fit.fits.each_arc a _ within in
     elim (cases_lt k (length arc.needs)) [
       | inl l ↦ need_small (is_used_at g.ends k) (nat_lt k 2) (int_at arc.needs k) (fits.needs k l)
       | inr l ↦ rw (get_or_past arc.needs k (pos 0) l) (omega (arith, ints), omega (arith, ints))
@@ -58,7 +58,7 @@ small_needs g a fit within k below =
 pub small_values : (g : GraphParts) (v : ℕ) (value : Values) → IsGraph g → v < length g.vertices → AreWithin (vertex_at g.vertices v).windows value → AreInLimits value.at
 small_values g v value fit within held k below =
     let vertex = vertex_at g.vertices v in
-    let fits : VertexFits g.ends vertex = fit.each_vertex v _ within in
+    let fits : VertexFits g.ends vertex = fit.fits.each_vertex v _ within in
     let small = windows_small g.ends vertex.windows k fits.windows in
     let at = held k below in
     (omega (arith, ints, small.0.0, small.0.1, small.1.0, small.1.1, at.0, at.1), omega (arith, ints, small.0.0, small.0.1, small.1.0, small.1.1, at.0, at.1))
@@ -66,7 +66,7 @@ small_values g v value fit within held k below =
 pub root_is_within : (g : GraphParts) → IsGraph g → AreWithin (vertex_at g.vertices g.ends.source).windows (root_of g)
 root_is_within g fit =
     let vertex = vertex_at g.vertices g.ends.source in
-    let fits : VertexFits g.ends vertex = fit.each_vertex g.ends.source _ fit.ends_fit.source in
+    let fits : VertexFits g.ends vertex = fit.fits.each_vertex g.ends.source _ fit.fits.ends_fit.source in
     let small = λ (k : ℕ). windows_small g.ends vertex.windows k fits.windows in
     at_each _ (omega (arith, ints), (small 0).2) (omega (arith, ints), (small 1).2) (omega (arith, ints), (small 2).2) (omega (arith, ints), (small 3).2) (omega (arith, ints), (small 4).2) (omega (arith, ints), (small 5).2)
 
@@ -79,7 +79,7 @@ moved_is_within values needs ws below =
     let above = λ (k : ℕ). max_above (window_at ws k).low (int_at values k +ℤ int_at needs k) in
     at_each _ (above 0, below 0 (omega arith)) (above 1, below 1 (omega arith)) (above 2, below 2 (omega arith)) (above 3, below 3 (omega arith)) (above 4, below 4 (omega arith)) (above 5, below 5 (omega arith))
 
-pair_same : {A B : Type 0} {a b : A} {c d : B} → a ≡ b → c ≡ d → ◌≡◌ {A = A × B} (a, c) (b, d)
+pub pair_same : {A B : Type 0} {a b : A} {c d : B} → a ≡ b → c ≡ d → ◌≡◌ {A = A × B} (a, c) (b, d)
 pair_same p q = cc
 
 -- what `after` computes, by the arc and the vertex that it reads
@@ -96,7 +96,7 @@ takes_to g value a vertex next e h = subst (λ (n : Values). AreBelow n.at verte
 
 stands_step : (g : GraphParts) (v : ℕ) (value : Values) (arcs : List ℕ) (a : ℕ) (rest : List ℕ) → IsGraph g → StandsAt g v value arcs (a ∷ rest) → a < length g.arcs → (arc_at g.arcs a).tail ≡ v → Takes g value a → AreWithin (vertex_at g.vertices (arc_at g.arcs a).head).windows (over_of g value a) → StandsAt g (arc_at g.arcs a).head (over_of g value a) arcs rest
 stands_step g v value arcs a rest fit h below tail takes held = record {
-  vertex = (fit.each_arc a _ below).head;
+  vertex = (fit.fits.each_arc a _ below).head;
   held = held;
   only = λ w. ((h.only w).0.2, (h.only w).1.1);
   whole = λ walk passes. h.whole (below, tail, walk) (takes, passes);
@@ -110,3 +110,35 @@ stands_next g v value arcs i a arc next fit within is h p below tail takes e hel
     let step = stands_step g v value arcs a (drop (i + 1) arcs) fit here below (ap (λ (x : GraphArc). x.tail) (sym p) ∙ tail) takes in
     subst (λ (x : GraphArc). StandsAt g x.head next arcs (drop (i + 1) arcs)) (sym p)
     (subst (λ (n : Values). StandsAt g (arc_at g.arcs a).head n arcs (drop (i + 1) arcs)) (sym e) (step (subst (λ (n : Values). AreWithin (vertex_at g.vertices (arc_at g.arcs a).head).windows n) e held)))
+
+-- walks taken apart and put together
+pub leads_join : (g : GraphParts) (u : ℕ) (xs : List ℕ) (v : ℕ) (ys : List ℕ) (w : ℕ) → Leads g u xs v → Leads g v ys w → Leads g u (xs ++ ys) w
+leads_join g u [] v ys w h k = subst (λ (x : ℕ). Leads g x ys w) (sym h) k
+leads_join g u (a ∷ xs) v ys w h k = (h.0, h.1, leads_join g (arc_at g.arcs a).head xs v ys w h.2 k)
+
+pub leads_split : (g : GraphParts) (u : ℕ) (xs ys : List ℕ) (w : ℕ) → Leads g u (xs ++ ys) w → (v : ℕ) × Leads g u xs v × Leads g v ys w
+leads_split g u [] ys w h = (u, refl, h)
+leads_split g u (a ∷ xs) ys w h =
+    let more = leads_split g (arc_at g.arcs a).head xs ys w h.2 in
+    (more.0, (h.0, h.1, more.1), more.2)
+
+pub passes_join : (g : GraphParts) (value : Values) (xs ys : List ℕ) → Passes g value xs → Passes g (values_at_end g value xs) ys → Passes g value (xs ++ ys)
+passes_join g value [] ys h k = k
+passes_join g value (a ∷ xs) ys h k = (h.0, passes_join g (over_of g value a) xs ys h.1 k)
+
+pub passes_split : (g : GraphParts) (value : Values) (xs ys : List ℕ) → Passes g value (xs ++ ys) → Passes g value xs × Passes g (values_at_end g value xs) ys
+passes_split g value [] ys h = (tt, h)
+passes_split g value (a ∷ xs) ys h =
+    let more = passes_split g (over_of g value a) xs ys h.1 in
+    ((h.0, more.0), more.1)
+
+-- the values at the end of a partial walk lie in the windows there
+pub within_at_end : (g : GraphParts) (v : ℕ) (value : Values) (xs : List ℕ) (w : ℕ) → Leads g v xs w → Passes g value xs → AreWithin (vertex_at g.vertices v).windows value → AreWithin (vertex_at g.vertices w).windows (values_at_end g value xs)
+within_at_end g v value [] w h p k = subst (λ (u : ℕ). AreWithin (vertex_at g.vertices u).windows value) h k
+within_at_end g v value (a ∷ xs) w h p k =
+    within_at_end g (arc_at g.arcs a).head (over_of g value a) xs w h.2 p.1
+    (moved_is_within value.at (arc_at g.arcs a).needs (vertex_at g.vertices (arc_at g.arcs a).head).windows p.0)
+
+pub end_within : (g : GraphParts) (v : ℕ) (xs : List ℕ) (w : ℕ) → IsGraph g → v < length g.vertices → Leads g v xs w → w < length g.vertices
+end_within g v [] w fit l h = subst (λ (u : ℕ). u < length g.vertices) h l
+end_within g v (a ∷ xs) w fit l h = end_within g (arc_at g.arcs a).head xs w fit (fit.fits.each_arc a _ h.0).head h.2

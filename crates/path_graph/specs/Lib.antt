@@ -1,4 +1,11 @@
 pub mod Fit
+pub mod Parts
+pub mod Free
+pub mod Graph
+pub mod Index
 pub mod Walk
+pub mod Rest
+pub mod Ranking
+pub mod Level
 pub mod Within
 pub mod Sums

@@ -1,24 +1,11 @@
-use Rattle.std.specs.Prelude.{◌≡◌, ℕ, ◌<◌, ℤ, ◌+ℤ◌, List, [], ◌∷◌, length, map, slice_index_or, ◌≤ℤ◌}
+-- Walks, and the values of the resources along them.
+use Rattle.std.specs.Prelude.{◌≡◌, ℕ, ◌<◌, ℤ, ◌+ℤ◌, List, [], ◌∷◌, length, map, ◌≤ℤ◌}
 use Rattle.std.specs.Int.{int_max}
 use Rattle.path_graph.specs.declared.parts.Window.{Window}
-use Rattle.path_graph.specs.declared.parts.Vertex.{Vertex}
-use Rattle.path_graph.specs.declared.parts.GraphArc.{GraphArc}
-use Rattle.path_graph.specs.declared.parts.Ends.{Ends}
 use Rattle.path_graph.specs.declared.parts.Values.{Values}
-use Rattle.path_graph.specs.Fit.{int_at, window_at, vertex_at, PartsFit}
-
--- what a graph is made of
-pub record GraphParts : Type 0 where
-  pub ends : Ends
-  pub vertices : List Vertex
-  pub arcs : List GraphArc
-
--- the parts of a graph fit
-abbrev pub IsGraph : GraphParts → Type 0
-IsGraph g = PartsFit g.ends g.vertices g.arcs
-
-abbrev pub arc_at : List GraphArc → ℕ → GraphArc
-arc_at arcs a = slice_index_or arcs a (record { tail = 0; head = 0; needs = [] })
+use Rattle.path_graph.specs.Fit.{int_at, window_at, vertex_at}
+pub use Rattle.path_graph.specs.Parts.{GraphParts, arc_at}
+pub use Rattle.path_graph.specs.Graph.{IsGraph}
 
 -- Walks. The arcs lead from one vertex to the other: each begins where the one before it ends.
 abbrev pub Leads : GraphParts → ℕ → List ℕ → ℕ → Type 0
@@ -61,6 +48,11 @@ Takes g value a = AreBelow (over_of g value a).at (vertex_at g.vertices (arc_at 
 abbrev pub Passes : GraphParts → Values → List ℕ → Type 0
 Passes g value [] = Unit {0}
 Passes g value (a ∷ rest) = Takes g value a × Passes g (over_of g value a) rest
+
+-- the values at the end of arcs that begin with a value
+abbrev pub values_at_end : GraphParts → Values → List ℕ → Values
+values_at_end g value [] = value
+values_at_end g value (a ∷ rest) = values_at_end g (over_of g value a) rest
 
 pub record IsFeasibleWalk (g : GraphParts) (arcs : List ℕ) : Type 0 where
   pub walk : IsWalk g arcs

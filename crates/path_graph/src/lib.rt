@@ -4,14 +4,22 @@
 //! It also has `List` and `NoMemory`, which every crate above uses.
 #![tactic(auto)]
 
+mod arc_lists;
+mod fault;
 mod fit;
 mod graph;
+mod levels;
 mod list;
 mod parts;
+mod ranking;
+mod rest;
 mod walk;
 
+pub use fault::GraphFault;
 pub use fit::parts_fit;
-pub use graph::{Graph, GraphFault};
+pub use graph::Graph;
+pub use levels::level;
 pub use list::{List, NoMemory};
 pub use parts::{Ends, GraphArc, SetBits, Values, Vertex, Window};
+pub use rest::{before, end_values, joins};
 pub use walk::{after, is_walk, root_values};

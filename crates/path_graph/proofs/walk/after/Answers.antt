@@ -9,7 +9,7 @@ use Rattle.path_graph.proofs.walk.after.Goals as goal
 pub values_over-next-requires-clause-values : goal.values_over-next-requires-clause-values
 values_over-next-requires-clause-values c =
     let fit = c.arc-parts.ensures.fits in
-    small_values c.args.g.now (arc_at c.args.g.now.arcs c.args.arc).tail c.args.value.now fit (fit.each_arc c.args.arc _ c.requires.arc).tail c.requires.value
+    small_values c.args.g.now (arc_at c.args.g.now.arcs c.args.arc).tail c.args.value.now fit (fit.fits.each_arc c.args.arc _ c.requires.arc).tail c.requires.value
 
 pub returns-then-are_below-clause-exact : goal.returns-then-are_below-clause-exact
 returns-then-are_below-clause-exact c =
