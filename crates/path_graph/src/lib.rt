@@ -8,10 +8,12 @@ mod fit;
 mod graph;
 mod list;
 mod parts;
+mod set_bits;
 mod walk;
 
 pub use fit::parts_fit;
 pub use graph::{Graph, GraphFault};
 pub use list::{List, NoMemory};
-pub use parts::{Ends, GraphArc, SetBits, Values, Vertex, Window};
+pub use parts::{Ends, GraphArc, Values, Vertex, Window};
+pub use set_bits::SetBits;
 pub use walk::{after, is_walk, root_values};
