@@ -1,13 +1,8 @@
-// A library with one function.
+//! Lists of packing sets that are near a vertex, and the memory of a walk that forgets what is not near.
 #![tactic(auto)]
 
-ghost use Rattle.std.specs.Prelude.{◌≡◌};
-ghost use Rattle.ng_sets.specs.Echo.{echo_of};
+mod memory;
+mod near;
 
-// The `ensures` clause is the contract: what `echo` returns is `echo_of` of its argument, a definition
-// in `specs/Echo.antt`, which a caller's clause can cite too.
-pub fn echo(x: usize) -> usize
-    ensures { result ≡ echo_of x }
-{
-    x
-}
+pub use memory::visit;
+pub use near::Near;

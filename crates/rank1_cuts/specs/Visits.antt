@@ -9,6 +9,11 @@ abbrev pub numerator_of : List CutSet → ℕ → ℕ
 numerator_of [] s = 0
 numerator_of (each ∷ rest) s = if each.set == s then each.num else numerator_of rest s
 
+-- what a visit adds where it is inside the memory
+abbrev pub numerator_at : Cut → Option ℕ → ℕ
+numerator_at cut None = 0
+numerator_at cut (Some s) = numerator_of cut.sets s
+
 -- what a visit makes of a state: of no set, the state itself; outside the memory 0; inside, the set's numerator more
 abbrev pub gathered : Cut → ℕ → Option ℕ → ℕ
 gathered cut state None = state
