@@ -1,0 +1,68 @@
+-- Lemmas on the sets near each vertex.
+use Rattle.std.proofs.Common.{◌≡◌, ℕ, ◌+◌, ◌-◌, ◌%◌, ◌<◌, ◌≤◌, ◌==◌, nat_lt, Bool, false, List, [], ◌∷◌, ◌++◌, length, get_or, set, take, replicate, zero, suc, refl, sym, ◌∙◌, ap, subst, arith, inl, inr}
+use Rattle.std.specs.Prelude.{map}
+use Rattle.std.specs.Int.{bit_at}
+use Rattle.std.proofs.lemmas.Nat.Bits.{bit_at-zero}
+use Rattle.std.proofs.lemmas.Bool.{cases_lt, and_right}
+use Rattle.std.proofs.lemmas.List.{get_or-replicate, length-replicate, length-set, get_or_past, get_or_append_left, map-append, take_more}
+use Rattle.std.proofs.Math.Seq.{map-set_same, get_or-append_right}
+use Rattle.path_graph.specs.declared.set_bits.SetBits.{SetBits}
+use Rattle.path_graph.specs.SetBits.{has_set, IsNone}
+use Rattle.path_graph.specs.Walk.{GraphParts}
+use Rattle.ng_sets.specs.Near.{graph_at, sets_at, near_at, FitsGraphs, HasNone, HasShape, IsNothingNear}
+
+-- a write in one list keeps the shape
+pub shape_of_set : (near inside : List (List SetBits)) (g v : ℕ) (sets : SetBits) (row new : List SetBits) → inside ≡ near → row ≡ get_or inside g row → new ≡ set row v sets
+    → HasShape near (set inside g new)
+shape_of_set near inside g v sets row new same is written =
+    map-set_same length inside g new row (ap length written ∙ (length-set row v sets ∙ ap length is)) ∙ ap (λ (xs : List (List SetBits)). map length xs) same
+
+none_default : IsNone (record { bits = [] })
+unfolding has_set
+none_default k = and_right (nat_lt k 512) (bit_at 0 (k % 64) == 1) (ap (λ (n : ℕ). n == 1) (bit_at-zero (k % 64)))
+
+-- as many empty sets as the graph has vertices
+pub nothing_near_all : (graph : GraphParts) (n : ℕ) (none : SetBits) (sets : List SetBits) → IsNone none → n ≡ length graph.vertices → sets ≡ replicate n none → IsNothingNear graph sets
+nothing_near_all graph n none sets empty count e = (
+    ap length e ∙ (length-replicate n none ∙ count),
+    λ v. subst (λ (xs : List SetBits). IsNone (sets_at xs v)) (sym e) (elim (cases_lt v n) [
+      | inl l ↦ subst IsNone (sym (get_or-replicate n v none (record { bits = [] }) l)) empty
+      | inr l ↦ subst IsNone (sym (get_or_past (replicate n none) v (record { bits = [] }) (omega (arith, length-replicate n none, l)))) none_default
+    ]),
+  )
+
+-- one graph alone
+none_alone : (sets : List SetBits) (v : ℕ) → ((w : ℕ) → IsNone (sets_at sets w)) → (g : ℕ) → IsNone (near_at (sets ∷ []) g v)
+none_alone sets v new zero = new v
+none_alone sets v new (suc g) = none_default
+
+-- one graph more
+none_push : (near : List (List SetBits)) (sets : List SetBits) → HasNone near → ((v : ℕ) → IsNone (sets_at sets v)) → HasNone (near ++ sets ∷ [])
+none_push near sets old new g v = elim (cases_lt g (length near)) [
+    | inl l ↦ subst (λ (xs : List SetBits). IsNone (sets_at xs v)) (sym (get_or_append_left near (sets ∷ []) [] g l)) (old g v)
+    | inr l ↦ subst (λ (xs : List SetBits). IsNone (sets_at xs v)) (sym (get_or-append_right near (sets ∷ []) g [] l)) (none_alone sets v new (g - length near))
+  ]
+
+fits_push : (near : List (List SetBits)) (sets : List SetBits) (graphs : List GraphParts) (i : ℕ) (graph : GraphParts) → i < length graphs → graph ≡ get_or graphs i graph
+    → FitsGraphs near (take i graphs) → length sets ≡ length graph.vertices → FitsGraphs (near ++ sets ∷ []) (take (i + 1) graphs)
+fits_push near sets graphs i graph below is fits count =
+    let f : GraphParts → ℕ = λ g. length g.vertices in
+    let more = take_more graphs i graph below in
+    let here : length sets ≡ f (get_or graphs i graph) = count ∙ ap f is in
+    map-append length near (sets ∷ [])
+    ∙ (ap (λ (xs : List ℕ). xs ++ length sets ∷ []) fits
+    ∙ (ap (λ (n : ℕ). map f (take i graphs) ++ n ∷ []) here
+    ∙ (sym (map-append f (take i graphs) (get_or graphs i graph ∷ []))
+    ∙ ap (map f) (sym more))))
+
+-- no graph at all
+pub none_anywhere : (near : List (List SetBits)) → near ≡ [] → FitsGraphs near [] × HasNone near
+none_anywhere near e = subst (λ (xs : List (List SetBits)). FitsGraphs xs [] × HasNone xs) (sym e) (refl, λ g v. none_default)
+
+-- what a loop over the graphs keeps
+pub graph_more : (near new : List (List SetBits)) (sets : List SetBits) (graphs : List GraphParts) (i : ℕ) (graph : GraphParts) → new ≡ near ++ sets ∷ []
+    → i < length graphs → graph ≡ get_or graphs i graph → FitsGraphs near (take i graphs) × HasNone near → IsNothingNear graph sets
+    → FitsGraphs new (take (i + 1) graphs) × HasNone new
+graph_more near new sets graphs i graph e below is old nothing =
+    subst (λ (xs : List (List SetBits)). FitsGraphs xs (take (i + 1) graphs) × HasNone xs) (sym e)
+    (fits_push near sets graphs i graph below is old.0 nothing.0, none_push near sets old.1 nothing.1)
