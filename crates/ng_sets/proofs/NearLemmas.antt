@@ -1,15 +1,15 @@
 -- Lemmas on the sets near each vertex.
-use Rattle.std.proofs.Common.{◌≡◌, ℕ, ◌+◌, ◌-◌, ◌%◌, ◌<◌, ◌≤◌, ◌==◌, nat_lt, Bool, false, List, [], ◌∷◌, ◌++◌, length, get_or, set, take, replicate, zero, suc, refl, sym, ◌∙◌, ap, subst, arith, inl, inr}
+use Rattle.std.proofs.Common.{◌≡◌, ℕ, ◌+◌, ◌-◌, ◌%◌, ◌<◌, ◌==◌, nat_lt, List, [], ◌∷◌, ◌++◌, length, get_or, set, take, replicate, zero, suc, refl, sym, ◌∙◌, ap, subst, arith, inl, inr}
 use Rattle.std.specs.Prelude.{map}
 use Rattle.std.specs.Int.{bit_at}
 use Rattle.std.proofs.lemmas.Nat.Bits.{bit_at-zero}
 use Rattle.std.proofs.lemmas.Bool.{cases_lt, and_right}
-use Rattle.std.proofs.lemmas.List.{get_or-replicate, length-replicate, length-set, get_or_past, get_or_append_left, map-append, take_more}
+use Rattle.std.proofs.lemmas.List.{get_or-replicate, length-replicate, length-set, get_or_past, get_or-map, length-map, get_or_append_left, map-append, take_more}
 use Rattle.std.proofs.Math.Seq.{map-set_same, get_or-append_right}
 use Rattle.path_graph.specs.declared.set_bits.SetBits.{SetBits}
 use Rattle.path_graph.specs.SetBits.{has_set, IsNone}
 use Rattle.path_graph.specs.Walk.{GraphParts}
-use Rattle.ng_sets.specs.Near.{graph_at, sets_at, near_at, FitsGraphs, HasNone, HasShape, IsNothingNear}
+use Rattle.ng_sets.specs.Near.{graph_at, sets_at, near_at, FitsGraphs, HasNone, HasShape, IsVertex, IsNothingNear}
 
 -- a write in one list keeps the shape
 pub shape_of_set : (near inside : List (List SetBits)) (g v : ℕ) (sets : SetBits) (row new : List SetBits) → inside ≡ near → row ≡ get_or inside g row → new ≡ set row v sets
@@ -66,3 +66,23 @@ pub graph_more : (near new : List (List SetBits)) (sets : List SetBits) (graphs 
 graph_more near new sets graphs i graph e below is old nothing =
     subst (λ (xs : List (List SetBits)). FitsGraphs xs (take (i + 1) graphs) × HasNone xs) (sym e)
     (fits_push near sets graphs i graph below is old.0 nothing.0, none_push near sets old.1 nothing.1)
+
+-- a vertex of a graph has its list, and keeps it
+pub vertex_of_graphs : (near : List (List SetBits)) (graphs : List GraphParts) (g v : ℕ) (graph : GraphParts) → FitsGraphs near graphs → g < length graphs → get_or graphs g graph ≡ graph
+    → v < length graph.vertices → IsVertex near g v
+vertex_of_graphs near graphs g v graph fits below is inside =
+    let f : GraphParts → ℕ = λ x. length x.vertices in
+    let count : length near ≡ length graphs = sym (length-map near length) ∙ (ap length fits ∙ length-map graphs f) in
+    let within : g < length near = omega arith in
+    let here : length (graph_at near g) ≡ f (get_or graphs g graph) =
+      sym (get_or-map length near g [] (f graph) within) ∙ (ap (λ (xs : List ℕ). get_or xs g (f graph)) fits ∙ get_or-map f graphs g graph (f graph) below) in
+    let same : f (get_or graphs g graph) ≡ f graph = ap f is in
+    (within, omega (arith, here, same, inside))
+
+pub vertex_kept : (old new : List (List SetBits)) (g v : ℕ) → HasShape old new → IsVertex old g v → IsVertex new g v
+vertex_kept old new g v shape is =
+    let count : length new ≡ length old = sym (length-map new length) ∙ (ap length shape ∙ length-map old length) in
+    let within : g < length new = omega (arith, count, is.0) in
+    let here : length (graph_at new g) ≡ length (graph_at old g) =
+      sym (get_or-map length new g [] 0 within) ∙ (ap (λ (xs : List ℕ). get_or xs g 0) shape ∙ get_or-map length old g [] 0 is.0) in
+    (within, omega (arith, here, is.1))
