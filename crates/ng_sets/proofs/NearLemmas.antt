@@ -4,18 +4,18 @@ use Rattle.std.specs.Prelude.{map}
 use Rattle.std.specs.Int.{bit_at}
 use Rattle.std.proofs.lemmas.Nat.Bits.{bit_at-zero}
 use Rattle.std.proofs.lemmas.Bool.{cases_lt, and_right}
-use Rattle.std.proofs.lemmas.List.{get_or-replicate, length-replicate, length-set, get_or_past, get_or-map, length-map, get_or_append_left, map-append, take_more}
+use Rattle.std.proofs.lemmas.List.{get_or-replicate, length-replicate, get_or_past, get_or-map, length-map, get_or_append_left, map-append, take_more}
 use Rattle.std.proofs.Math.Seq.{map-set_same, get_or-append_right}
 use Rattle.path_graph.specs.declared.set_bits.SetBits.{SetBits}
 use Rattle.path_graph.specs.SetBits.{has_set, IsNone}
 use Rattle.path_graph.specs.Walk.{GraphParts}
 use Rattle.ng_sets.specs.Near.{graph_at, sets_at, near_at, FitsGraphs, HasNone, HasShape, IsVertex, IsNothingNear}
 
--- a write in one list keeps the shape
-pub shape_of_set : (near inside : List (List SetBits)) (g v : ℕ) (sets : SetBits) (row new : List SetBits) → inside ≡ near → row ≡ get_or inside g row → new ≡ set row v sets
+-- another list of the same length in the place of one keeps the shape
+pub shape_of_set : (near inside : List (List SetBits)) (g : ℕ) (row new : List SetBits) → inside ≡ near → row ≡ get_or inside g row → length new ≡ length row
     → HasShape near (set inside g new)
-shape_of_set near inside g v sets row new same is written =
-    map-set_same length inside g new row (ap length written ∙ (length-set row v sets ∙ ap length is)) ∙ ap (λ (xs : List (List SetBits)). map length xs) same
+shape_of_set near inside g row new same is size =
+    map-set_same length inside g new row (size ∙ ap length is) ∙ ap (λ (xs : List (List SetBits)). map length xs) same
 
 none_default : IsNone (record { bits = [] })
 unfolding has_set

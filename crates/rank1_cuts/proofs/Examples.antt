@@ -1,12 +1,11 @@
 -- Worked rows of the definitions, by computing.
-use Rattle.std.proofs.Common.{◌≡◌, ℕ, ◌<◌, ◌≤◌, true, false, List, [], ◌∷◌, Option, None, Some, zero, suc, refl, arith}
+use Rattle.std.proofs.Common.{◌≡◌, ℕ, ◌<◌, true, List, [], ◌∷◌, Option, None, Some, zero, suc, refl, arith}
 use Rattle.path_graph.specs.declared.set_bits.SetBits.{SetBits}
 use Rattle.path_graph.specs.SetBits.{has_set}
 use Rattle.rank1_cuts.specs.declared.cut.Cut.{Cut}
 use Rattle.rank1_cuts.specs.declared.cut.CutSet.{CutSet}
-use Rattle.rank1_cuts.specs.declared.cut.CutFault.{CutFault}
-use Rattle.rank1_cuts.specs.declared.cut.CutFault.TheVariants.{Denominator, Empty, Long, Repeated, Numerator}
-use Rattle.rank1_cuts.specs.Fit.{IsRepeated, IsNumerator, IsFault, right_side_of}
+use Rattle.rank1_cuts.specs.declared.cut.CutFault.TheVariants.{Denominator, Empty, Repeated, Numerator}
+use Rattle.rank1_cuts.specs.Fit.{IsRepeated, HasNumerator, IsFault, right_side_of}
 use Rattle.rank1_cuts.specs.Visits.{rises, state_after, state_from, coef_of}
 
 abbrev item : ℕ → ℕ → CutSet
@@ -105,24 +104,43 @@ once_two b rest (suc zero) l (suc j, below, same) = omega arith
 once_two b rest (suc (suc k)) l h = omega arith
 
 -- 1 is a numerator over 3
-before_one : (j : ℕ) → j < 1 → ¬ (¬ (IsNumerator 3 (item 4 1 ∷ item 5 3 ∷ []) j))
+before_one : (j : ℕ) → j < 1 → ¬ (¬ (HasNumerator 3 (item 4 1 ∷ item 5 3 ∷ []) j))
 before_one zero l none = none (omega arith, omega arith)
 before_one (suc j) l none = omega arith
 
 -- 4 stands again at place 2, where 0 is no numerator either
 again : IsFault (record { den = 3; sets = item 4 1 ∷ item 5 2 ∷ item 4 0 ∷ []; memory = memory_of 0 }) (Repeated 4)
-again = ((omega arith, omega arith), omega arith, omega arith, (2, record {
-    within = omega arith;
-    here = (0, omega arith, refl);
-    before = λ j l. once_two 2 (item 4 0 ∷ []) j l;
-  }, refl))
+again = (
+  (omega arith, omega arith),
+  omega arith,
+  omega arith,
+  (
+    2,
+    record {
+      within = omega arith;
+      here = (0, omega arith, refl);
+      before = λ j l. once_two 2 (item 4 0 ∷ []) j l;
+    },
+    refl,
+  ),
+)
 
 too_great : IsFault (record { den = 3; sets = item 4 1 ∷ item 5 3 ∷ []; memory = memory_of 0 }) (Numerator 5)
-too_great = ((omega arith, omega arith), omega arith, omega arith, once_two 3 [], (1, record {
-    within = omega arith;
-    here = λ h. omega (arith, h.1);
-    before = before_one;
-  }, refl))
+too_great = (
+  (omega arith, omega arith),
+  omega arith,
+  omega arith,
+  once_two 3 [],
+  (
+    1,
+    record {
+      within = omega arith;
+      here = λ h. omega (arith, h.1);
+      before = before_one;
+    },
+    refl,
+  ),
+)
 
 none_at_all : IsFault (record { den = 8; sets = []; memory = memory_of 0 }) Empty
 none_at_all = ((omega arith, omega arith), refl)

@@ -1,22 +1,22 @@
 -- A cut that does not fit has one first fault, and a cut that fits has none.
-use Rattle.std.proofs.Common.{◌≡◌, ℕ, ◌<◌, ◌≤◌, ◌↔◌, inl, inr, List, length, refl, sym, ◌∙◌, ap, subst, arith, IsTrue, Result, Ok, Err}
+use Rattle.std.proofs.Common.{◌≡◌, ℕ, ◌≤◌, ◌↔◌, inl, inr, List, length, refl, sym, ◌∙◌, ap, subst, arith, Result, Ok, Err}
 use Rattle.std.specs.Prelude.{IsOk}
 use Rattle.std.proofs.lemmas.Bool.{cases_order}
 use Rattle.rank1_cuts.specs.declared.cut.Cut.{Cut}
 use Rattle.rank1_cuts.specs.declared.cut.CutSet.{CutSet}
 use Rattle.rank1_cuts.specs.declared.cut.CutFault.{CutFault}
 use Rattle.rank1_cuts.specs.declared.cut.CutFault.TheVariants.{Denominator, Empty, Long, Repeated, Numerator}
-use Rattle.rank1_cuts.specs.Fit.{IsDenominator, EachBelow, IsFirst, IsRepeated, IsNumerator, item_at, CutFits, IsFault}
+use Rattle.rank1_cuts.specs.Fit.{IsDenominator, EachBelow, IsFirst, IsRepeated, HasNumerator, item_at, CutFits, IsFault}
 
 -- the first number is one
 first_one : (n : ℕ) (P : ℕ → Type 0) (i j : ℕ) → IsFirst n P i → IsFirst n P j → i ≡ j
 first_one n P i j p q = elim (cases_order i j) [
-    | inl same ↦ same
-    | inr other ↦ elim other [
-      | inl low ↦ absurd (q.before i low p.here)
-      | inr high ↦ absurd (p.before j high q.here)
-    ]
+  | inl same ↦ same
+  | inr other ↦ elim other [
+    | inl low ↦ absurd (q.before i low p.here)
+    | inr high ↦ absurd (p.before j high q.here)
   ]
+]
 
 no_fault : (cut : Cut) (fault : CutFault) → CutFits cut → ¬ (IsFault cut fault)
 no_fault cut Denominator fits h = h fits.denominator
@@ -53,16 +53,16 @@ one_fault cut (Numerator s) Empty p q = absurd (omega (arith, p.1, q.1))
 one_fault cut (Numerator s) Long p q = absurd (omega (arith, p.2, q.1))
 one_fault cut (Numerator s) (Repeated t) p q = absurd (p.3 q.3.0 q.3.1.within q.3.1.here)
 one_fault cut (Numerator s) (Numerator t) p q =
-    let place = first_one (length cut.sets) (λ (j : ℕ). ¬ (IsNumerator cut.den cut.sets j)) p.4.0 q.4.0 p.4.1 q.4.1 in
+    let place = first_one (length cut.sets) (λ (j : ℕ). ¬ (HasNumerator cut.den cut.sets j)) p.4.0 q.4.0 p.4.1 q.4.1 in
     ap (λ (x : ℕ). Numerator x) (sym p.4.2 ∙ (ap (λ (k : ℕ). (item_at cut.sets k).set) place ∙ q.4.2))
 
 -- what `cut_fits` says where it refuses
 pub refused : (cut : Cut) (f : CutFault) → IsFault cut f
     → (IsOk {T = Unit {0}} (Err f) ↔ CutFits cut) × ((g : CutFault) → (◌≡◌ {A = Result (Unit {0}) CutFault} (Err f) (Err g)) ↔ IsFault cut g)
 refused cut f h = (
-    (λ ok. absurd (let no : IsOk {T = Unit {0}} {E = CutFault} (Err f) = ok in cc), λ fits. absurd (no_fault cut f fits h)),
-    λ g. (λ e. subst (λ (x : CutFault). IsFault cut x) (let same : f ≡ g = cc in same) h, λ q. ap (λ (x : CutFault). Err x) (one_fault cut f g h q)),
-  )
+  (λ ok. absurd (let no : IsOk {T = Unit {0}} {E = CutFault} (Err f) = ok in cc), λ fits. absurd (no_fault cut f fits h)),
+  λ g. (λ e. subst (λ (x : CutFault). IsFault cut x) (let same : f ≡ g = cc in same) h, λ q. ap (λ (x : CutFault). Err x) (one_fault cut f g h q)),
+)
 
 -- and where it accepts
 pub accepted : (cut : Cut) (u : Unit {0}) → CutFits cut
@@ -71,19 +71,19 @@ accepted cut u fits = ((λ ok. fits, λ f. refl), λ g. (λ e. absurd (let no : 
 
 -- the last two phases of the search for a fault, over the list that the code reads
 pub numerator_fault : (cut : Cut) (sets : List CutSet) (k : ℕ) → sets ≡ cut.sets → IsDenominator cut.den → 1 ≤ length sets → length sets ≤ 16
-    → EachBelow (length sets) (λ j. ¬ (IsRepeated sets j)) → IsFirst (length sets) (λ j. ¬ (IsNumerator cut.den sets j)) k
+    → EachBelow (length sets) (λ j. ¬ (IsRepeated sets j)) → IsFirst (length sets) (λ j. ¬ (HasNumerator cut.den sets j)) k
     → IsFault cut (Numerator (item_at sets k).set)
 numerator_fault cut sets k e den some few once first =
     let P : List CutSet → Type 0 = λ xs. (1 ≤ length xs) × (length xs ≤ 16) × EachBelow (length xs) (λ j. ¬ (IsRepeated xs j))
-        × IsFirst (length xs) (λ j. ¬ (IsNumerator cut.den xs j)) k × ((item_at xs k).set ≡ (item_at sets k).set) in
+    × IsFirst (length xs) (λ j. ¬ (HasNumerator cut.den xs j)) k × ((item_at xs k).set ≡ (item_at sets k).set) in
     let p = subst P e (some, few, once, first, refl) in
     (den, p.0, p.1, p.2, (k, p.3, p.4))
 
 pub all_fit : (cut : Cut) (sets : List CutSet) → sets ≡ cut.sets → IsDenominator cut.den → 1 ≤ length sets → length sets ≤ 16
-    → EachBelow (length sets) (λ j. ¬ (IsRepeated sets j)) → EachBelow (length sets) (IsNumerator cut.den sets)
+    → EachBelow (length sets) (λ j. ¬ (IsRepeated sets j)) → EachBelow (length sets) (HasNumerator cut.den sets)
     → CutFits cut
 all_fit cut sets e den some few once numerators =
     let P : List CutSet → Type 0 = λ xs. (1 ≤ length xs) × (length xs ≤ 16) × EachBelow (length xs) (λ j. ¬ (IsRepeated xs j))
-        × EachBelow (length xs) (IsNumerator cut.den xs) in
+    × EachBelow (length xs) (HasNumerator cut.den xs) in
     let p = subst P e (some, few, once, numerators) in
     record { denominator = den; some = p.0; few = p.1; once = p.2; numerators = p.3 }

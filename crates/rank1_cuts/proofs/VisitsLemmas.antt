@@ -1,5 +1,5 @@
 -- Lemmas on states and coefficients.
-use Rattle.std.proofs.Common.{◌≡◌, ℕ, ◌+◌, ◌-◌, ◌*◌, ◌<◌, ◌≤◌, Bool, true, false, cond, List, [], ◌∷◌, ◌++◌, Option, None, Some, length, ◌==◌, zero, suc, mul-add, refl, sym, ◌∙◌, ap, subst, arith, inl, inr}
+use Rattle.std.proofs.Common.{◌≡◌, ℕ, ◌+◌, ◌-◌, ◌*◌, ◌<◌, ◌≤◌, List, [], ◌∷◌, ◌++◌, Option, None, Some, length, ◌==◌, suc, mul-add, refl, ◌∙◌, arith, inl, inr}
 use Rattle.std.specs.Prelude.{nat_le, if◌then◌else◌, sum_by}
 use Rattle.std.proofs.lemmas.List.Sums.{sum_by-cons}
 use Rattle.std.proofs.lemmas.Bool.{cond_both, cases_Bool, leb-true, leb-false}
@@ -7,7 +7,7 @@ use Rattle.path_graph.specs.SetBits.{has_set}
 use Rattle.rank1_cuts.specs.declared.cut.Cut.{Cut}
 use Rattle.rank1_cuts.specs.declared.cut.CutSet.{CutSet}
 use Rattle.rank1_cuts.specs.Fit.{item_at, CutFits}
-use Rattle.rank1_cuts.specs.Visits.{numerator_of, numerator_at, gathered, rises, state_after, state_from, rises_from, coef_of}
+use Rattle.rank1_cuts.specs.Visits.{numerator_of, numerator_at, gathered, rises, state_after, state_from, rises_from}
 
 -- visits one after the other: the second begin at the state that the first leave
 pub state_from-append : (cut : Cut) (state : ℕ) (xs ys : List (Option ℕ)) → state_from cut state (xs ++ ys) ≡ state_from cut (state_from cut state xs) ys

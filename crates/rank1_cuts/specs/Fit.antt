@@ -1,5 +1,5 @@
 -- Which rank-1 cuts fit, the first fault of one that does not, and the right side.
-use Rattle.std.specs.Prelude.{◌≡◌, ℕ, ◌/◌, ◌<◌, ◌≤◌, List, [], length, slice_index_or, sum_by}
+use Rattle.std.specs.Prelude.{◌≡◌, ℕ, ◌/◌, ◌<◌, ◌≤◌, List, length, slice_index_or, sum_by}
 use Rattle.rank1_cuts.specs.declared.cut.Cut.{Cut}
 use Rattle.rank1_cuts.specs.declared.cut.CutSet.{CutSet}
 use Rattle.rank1_cuts.specs.declared.cut.CutFault.{CutFault}
@@ -20,9 +20,13 @@ Stands sets place set = (j : ℕ) × (j < place) × ((item_at sets j).set ≡ se
 abbrev pub IsRepeated : List CutSet → ℕ → Type 0
 IsRepeated sets k = Stands sets k (item_at sets k).set
 
--- the numerator at the place is from 1 to the denominator less 1
-abbrev pub IsNumerator : ℕ → List CutSet → ℕ → Type 0
-IsNumerator den sets k = (1 ≤ (item_at sets k).num) × ((item_at sets k).num < den)
+-- a numerator is from 1 to the denominator less 1
+abbrev pub IsNumerator : ℕ → ℕ → Type 0
+IsNumerator den num = (1 ≤ num) × (num < den)
+
+-- there is one at the place
+abbrev pub HasNumerator : ℕ → List CutSet → ℕ → Type 0
+HasNumerator den sets k = IsNumerator den (item_at sets k).num
 
 -- P holds at each number below n
 abbrev pub EachBelow : ℕ → (ℕ → Type 0) → Type 0
@@ -40,7 +44,7 @@ pub record CutFits (cut : Cut) : Type 0 where
   pub some : 1 ≤ length cut.sets
   pub few : length cut.sets ≤ 16
   pub once : EachBelow (length cut.sets) (λ k. ¬ (IsRepeated cut.sets k))
-  pub numerators : EachBelow (length cut.sets) (IsNumerator cut.den cut.sets)
+  pub numerators : EachBelow (length cut.sets) (HasNumerator cut.den cut.sets)
 
 -- the first fault of the cut, in the order of the faults, then of the list
 abbrev pub IsFault : Cut → CutFault → Type 0
@@ -53,7 +57,7 @@ IsFault cut (Repeated set) =
 IsFault cut (Numerator set) =
     IsDenominator cut.den × (1 ≤ length cut.sets) × (length cut.sets ≤ 16)
     × EachBelow (length cut.sets) (λ k. ¬ (IsRepeated cut.sets k))
-    × ((k : ℕ) × IsFirst (length cut.sets) (λ j. ¬ (IsNumerator cut.den cut.sets j)) k × ((item_at cut.sets k).set ≡ set))
+    × ((k : ℕ) × IsFirst (length cut.sets) (λ j. ¬ (HasNumerator cut.den cut.sets j)) k × ((item_at cut.sets k).set ≡ set))
 
 -- the sum of the numerators over the denominator, rounded down
 abbrev pub right_side_of : Cut → ℕ

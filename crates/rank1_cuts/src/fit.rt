@@ -1,5 +1,5 @@
 ghost use Rattle.std.specs.Prelude.{◌≡◌, ◌↔◌, IsTrue, IsOk, ℕ, ◌+◌, ◌*◌, ◌/◌, ◌<◌, ◌≤◌, length, MatchOption, sum_by};
-ghost use Rattle.rank1_cuts.specs.Fit.{IsDenominator, Stands, IsRepeated, IsNumerator, EachBelow, IsFirst, CutFits, IsFault, right_side_of};
+ghost use Rattle.rank1_cuts.specs.Fit.{IsDenominator, Stands, IsRepeated, IsNumerator, HasNumerator, EachBelow, IsFirst, CutFits, IsFault, right_side_of};
 
 use crate::cut::{Cut, CutFault, CutSet};
 
@@ -64,15 +64,21 @@ fn stands_before(sets: &[CutSet], place: usize, set: u16) -> bool
 }
 
 fn first_bad_numerator(den: u8, sets: &[CutSet]) -> Option<usize>
-    ensures { MatchOption result (EachBelow (length sets.now) (IsNumerator den sets.now))
-        (IsFirst (length sets.now) (λ k. ¬ (IsNumerator den sets.now k))) }
+    ensures { MatchOption result (EachBelow (length sets.now) (HasNumerator den sets.now))
+        (IsFirst (length sets.now) (λ k. ¬ (HasNumerator den sets.now k))) }
 {
     for (place, each) in sets.iter().enumerate() {
-        if each.num < 1 || each.num >= den {
+        if !is_numerator(den, each.num) {
             return Some(place);
         }
     }
     None
+}
+
+fn is_numerator(den: u8, num: u8) -> bool
+    ensures { IsTrue result ↔ IsNumerator den num }
+{
+    1 <= num && num < den
 }
 
 /// The right side of a cut: the sum of its numerators over its denominator, rounded down.

@@ -1,5 +1,5 @@
 ghost use Rattle.std.specs.Prelude.{◌≡◌, ℕ, ◌+◌, ◌<◌, ◌≤◌, length};
-ghost use Rattle.rank1_cuts.specs.Fit.{CutFits, IsNumerator};
+ghost use Rattle.rank1_cuts.specs.Fit.{CutFits};
 ghost use Rattle.rank1_cuts.specs.Visits.{numerator_of, rises, state_after, coef_of};
 
 use crate::cut::{Cut, CutSet};
