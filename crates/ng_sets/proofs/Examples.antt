@@ -33,9 +33,9 @@ not_visited (Some s) k fits past = ne_eqb k s (λ e. omega arith)
 -- what computes below 512 holds of each number
 row : (set : Option ℕ) (after : SetBits) → IfSome set (λ s. s < 512) → agree_below (has_set after) (kept set) 512 ≡ true → Remembers memory near set after
 row set after fits agree k = elim (cases_lt k 512) [
-    | inl below ↦ agree_below_at (has_set after) (kept set) 512 k agree below
-    | inr past ↦ no_member after k past ∙ sym (rw (no_member memory k past, not_visited set k fits past) refl)
-  ]
+  | inl below ↦ agree_below_at (has_set after) (kept set) 512 k agree below
+  | inr past ↦ no_member after k past ∙ sym (rw (no_member memory k past, not_visited set k fits past) refl)
+]
 
 -- set 1 leaves 0 and 1
 visit_one : Remembers memory near (Some 1) (sets_of 3)

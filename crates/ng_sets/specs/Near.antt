@@ -2,7 +2,7 @@
 use Rattle.std.specs.Prelude.{◌≡◌, ℕ, ◌<◌, List, [], length, map, slice_index_or}
 use Rattle.path_graph.specs.Walk.{GraphParts}
 use Rattle.path_graph.specs.declared.set_bits.SetBits.{SetBits}
-use Rattle.path_graph.specs.SetBits.{IsNone}
+use Rattle.path_graph.specs.SetBits.{HasNoMember}
 
 -- the sets near the vertices of a graph
 abbrev pub graph_at : List (List SetBits) → ℕ → List SetBits
@@ -30,11 +30,11 @@ HasShape old new = map length new ≡ map length old
 
 -- no set is near any vertex
 abbrev pub HasNone : List (List SetBits) → Type 0
-HasNone near = (g v : ℕ) → IsNone (near_at near g v)
+HasNone near = (g v : ℕ) → HasNoMember (near_at near g v)
 
 -- a list for each vertex of the graph, with no set
 abbrev pub IsNothingNear : GraphParts → List SetBits → Type 0
-IsNothingNear graph sets = (length sets ≡ length graph.vertices) × ((v : ℕ) → IsNone (sets_at sets v))
+IsNothingNear graph sets = (length sets ≡ length graph.vertices) × ((v : ℕ) → HasNoMember (sets_at sets v))
 
 -- the sets near each other vertex are as before
 abbrev pub KeepsOthers : List (List SetBits) → List (List SetBits) → ℕ → ℕ → Type 0

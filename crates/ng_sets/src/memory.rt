@@ -1,4 +1,5 @@
 ghost use Rattle.std.specs.Prelude.{◌↔◌, ◌<◌, IfSome, IsNone};
+ghost use Rattle.path_graph.specs.SetBits.{IsWhole};
 ghost use Rattle.ng_sets.specs.Memory.{IsRemembered, Remembers};
 
 use path_graph::SetBits;
@@ -14,6 +15,7 @@ pub fn visit(memory: &SetBits, near: &SetBits, set: Option<u16>) -> Option<SetBi
     requires { IfSome set (λ s. s < 512) }
     ensures refused { IsNone result ↔ IsRemembered memory.now set }
     ensures after { IfSome result (Remembers memory.now near.now set) }
+    ensures whole { IfSome result IsWhole }
 {
     let kept = memory.meet(near);
     match set {

@@ -1,3 +1,5 @@
 pub mod WalkLemmas
 pub mod SumLemmas
 pub mod SetBitsLemmas
+pub mod SetBitsMade
+pub mod SetBitsExamples

@@ -1,9 +1,9 @@
 -- Laws of sets of packing sets, by their members.
-use Rattle.std.proofs.Common.{◌≡◌, ◌≢◌, ℕ, ◌+◌, ◌*◌, ◌/◌, ◌%◌, ◌^◌, ◌<◌, ◌≤◌, ◌==◌, ◌&&◌, ◌||◌, nat_lt, Bool, true, false, inl, inr, List, [], ◌∷◌, length, get_or, set, zero, suc, min, refl, sym, ◌∙◌, ap, subst, arith, w64, ◌⊎◌}
-use Rattle.std.proofs.lemmas.Bool.{cases_eq, lt-ltb, le-ltb, ltb-true, eqb-true, eq-eqb, ne_eqb, and_parts, and_from, or_left, or_right, or_cases}
-use Rattle.std.proofs.lemmas.List.{get_or-set_same, get_or-set_other}
-use Rattle.std.proofs.lemmas.Grind.{same_number_lists}
-use Rattle.std.proofs.lemmas.Nat.{and_le_l}
+use Rattle.std.proofs.Common.{◌≡◌, ◌≢◌, ℕ, ◌+◌, ◌*◌, ◌/◌, ◌%◌, ◌^◌, ◌<◌, ◌≤◌, ◌==◌, ◌&&◌, ◌||◌, nat_lt, Bool, true, false, inl, inr, List, [], ◌∷◌, length, get_or, set, zero, suc, min, refl, sym, ◌∙◌, ap, subst, arith, below_more, w64, ◌⊎◌}
+use Rattle.std.proofs.lemmas.Bool.{cases_lt, cases_eq, lt-ltb, le-ltb, ltb-true, eqb-true, eq-eqb, ne_eqb, and_parts, and_from, or_left, or_right, or_cases}
+use Rattle.std.proofs.lemmas.List.{get_or_past, length-set, get_or-set_same, get_or-set_other}
+use Rattle.std.proofs.lemmas.Grind.{same_number_lists, get_or-set_at}
+use Rattle.std.proofs.lemmas.Nat.{and_le_l, or_lt, mod_below, pow_pos}
 use Rattle.std.proofs.lemmas.Nat.Bits.{bit_at_and, bit_at-zero, bit_at-lt, bit_at_set_same, bit_at_set_other, shr_and_one, same_from_bits_below}
 use Rattle.std.specs.Prelude.{bit_and, bit_or}
 use Rattle.std.specs.Int.{bit_at}
@@ -11,7 +11,7 @@ use Rattle.path_graph.specs.declared.set_bits.SetBits.{SetBits}
 use Rattle.path_graph.specs.SetBits.{has_set, IsWith, IsMeet, IsSubset, IsWhole}
 
 -- the bit that stands for a number
-abbrev bit_for : SetBits → ℕ → ℕ
+abbrev pub bit_for : SetBits → ℕ → ℕ
 bit_for sets s = bit_at (get_or sets.bits (s / 64) 0) (s % 64)
 
 -- a test that is true exactly where another is, is that test
@@ -24,13 +24,13 @@ or_none : (x : Bool) → x ≡ (x || false)
 or_none true = refl
 or_none false = refl
 
-member_bit : (sets : SetBits) (s : ℕ) → has_set sets s ≡ true → (s < 512) × (bit_for sets s ≡ 1)
+pub member_bit : (sets : SetBits) (s : ℕ) → has_set sets s ≡ true → (s < 512) × (bit_for sets s ≡ 1)
 unfolding has_set
 member_bit sets s h =
     let parts = and_parts (nat_lt s 512) (bit_for sets s == 1) h in
     (ltb-true s 512 parts.0, eqb-true (bit_for sets s) 1 parts.1)
 
-bit_member : (sets : SetBits) (s : ℕ) → s < 512 → bit_for sets s ≡ 1 → has_set sets s ≡ true
+pub bit_member : (sets : SetBits) (s : ℕ) → s < 512 → bit_for sets s ≡ 1 → has_set sets s ≡ true
 unfolding has_set
 bit_member sets s below set =
     and_from (nat_lt s 512) (bit_for sets s == 1) (lt-ltb s 512 below) (eq-eqb (bit_for sets s) 1 set)
@@ -215,3 +215,37 @@ words_of_subset a b j below fits sub =
           omega arith
       | inr other ↦ omega arith
     ])
+
+-- eight words, each of 64 bits
+pub whole_of_words : (bits : List ℕ) → length bits ≡ 8 → ((j : ℕ) → j < 8 → get_or bits j 0 < 2 ^ 64) → IsWhole (record { bits = bits })
+whole_of_words bits count each = (
+  count,
+  λ k. elim (cases_lt k 8) [
+    | inl l ↦ each k l
+    | inr l ↦ subst (λ (x : ℕ). x < 2 ^ 64) (sym (get_or_past bits k 0 (omega (arith, count, l)))) (omega (arith, pow_pos 64))
+  ],
+)
+
+-- a word with one bit more stays one of 64 bits
+pub with-whole : (sets : SetBits) (s : ℕ) → IsWhole sets
+    → IsWhole (record { bits = set sets.bits (s / 64) (bit_or (get_or sets.bits (s / 64) 0) (1 * 2 ^ (s % 64) % 2 ^ 64)) })
+with-whole sets s whole =
+    let word : ℕ = bit_or (get_or sets.bits (s / 64) 0) (1 * 2 ^ (s % 64) % 2 ^ 64) in
+    let fits : word < 2 ^ 64 = or_lt 64 (get_or sets.bits (s / 64) 0) (1 * 2 ^ (s % 64) % 2 ^ 64) (whole.1 (s / 64)) (mod_below (1 * 2 ^ (s % 64)) (2 ^ 64) (pow_pos 64)) in (
+      length-set sets.bits (s / 64) word ∙ whole.0,
+      λ k. elim (cases_eq k (s / 64)) [
+        | inl same ↦ elim (cases_lt k (length sets.bits)) [
+          | inl l ↦ subst (λ (x : ℕ). x < 2 ^ 64) (sym (get_or-set_at sets.bits (s / 64) k word 0 same (omega arith))) fits
+          | inr l ↦ subst (λ (x : ℕ). x < 2 ^ 64) (sym (get_or_past (set sets.bits (s / 64) word) k 0 (omega (arith, length-set sets.bits (s / 64) word, l)))) (omega (arith, pow_pos 64))
+        ]
+        | inr other ↦ subst (λ (x : ℕ). x < 2 ^ 64) (sym (get_or-set_other sets.bits (s / 64) k word 0 other)) (whole.1 k)
+      ],
+    )
+
+-- what holds of each word before k, and of the one that is put at k, holds before k + 1
+pub words_after_set : (P : ℕ → ℕ → Type 0) (bits : List ℕ) (k word : ℕ) → k < length bits → ((j : ℕ) → j < k → P j (get_or bits j 0)) → P k word
+    → (j : ℕ) → j < k + 1 → P j (get_or (set bits k word) j 0)
+words_after_set P bits k word within old new =
+    below_more (λ (j : ℕ). P j (get_or (set bits k word) j 0)) k
+    (λ j l. subst (P j) (sym (get_or-set_other bits k j word 0 (λ e. omega arith))) (old j l))
+    (subst (P k) (sym (get_or-set_same bits k word 0 within)) new)

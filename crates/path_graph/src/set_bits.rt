@@ -1,5 +1,5 @@
 ghost use Rattle.std.specs.Prelude.{◌≡◌, ◌↔◌, IsTrue, ◌<◌};
-ghost use Rattle.path_graph.specs.SetBits.{has_set, IsNone, IsWith, IsMeet, IsSubset};
+ghost use Rattle.path_graph.specs.SetBits.{has_set, HasNoMember, IsWith, IsMeet, IsSubset, IsWhole};
 
 /// A set of packing sets, by number: bit `s % 64` of word `s / 64` stands for set `s`.
 ///
@@ -12,7 +12,8 @@ pub struct SetBits {
 impl SetBits {
     /// The set with no member.
     pub fn empty() -> SetBits
-        ensures { IsNone result }
+        ensures members { HasNoMember result }
+        ensures whole { IsWhole result }
     {
         SetBits { bits: [0; 8] }
     }
@@ -27,7 +28,8 @@ impl SetBits {
     /// The set with one more member.
     pub fn with(&self, s: u16) -> SetBits
         requires { s < 512 }
-        ensures { IsWith self.now s result }
+        ensures members { IsWith self.now s result }
+        ensures whole { IsWhole self.now → IsWhole result }
     {
         let mut more = *self;
         more.bits[s as usize / 64] |= 1 << (s % 64);
@@ -36,11 +38,12 @@ impl SetBits {
 
     /// The members of both sets.
     pub fn meet(&self, o: &SetBits) -> SetBits
-        ensures { IsMeet self.now o.now result }
+        ensures members { IsMeet self.now o.now result }
+        ensures whole { IsWhole result }
     {
-        let mut bits = self.bits;
-        for (k, word) in o.bits.iter().enumerate() {
-            bits[k] &= *word;
+        let mut bits = [0; 8];
+        for k in 0..8 {
+            bits[k] = self.bits[k] & o.bits[k];
         }
         SetBits { bits }
     }
