@@ -5,3 +5,6 @@ pub mod RestLemmas
 pub mod IndexLemmas
 pub mod RankingLemmas
 pub mod LevelLemmas
+pub mod SetBitsLemmas
+pub mod SetBitsMade
+pub mod SetBitsExamples

@@ -9,3 +9,4 @@ pub mod Ranking
 pub mod Level
 pub mod Within
 pub mod Sums
+pub mod SetBits

@@ -13,6 +13,7 @@ mod list;
 mod parts;
 mod ranking;
 mod rest;
+mod set_bits;
 mod walk;
 
 pub use fault::GraphFault;
@@ -20,6 +21,7 @@ pub use fit::parts_fit;
 pub use graph::Graph;
 pub use levels::level;
 pub use list::{List, NoMemory};
-pub use parts::{Ends, GraphArc, SetBits, Values, Vertex, Window};
+pub use parts::{Ends, GraphArc, Values, Vertex, Window};
 pub use rest::{before, end_values, joins};
+pub use set_bits::SetBits;
 pub use walk::{after, is_walk, root_values};

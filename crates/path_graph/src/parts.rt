@@ -1,9 +1,3 @@
-/// A set of packing sets, by number: bit `s % 64` of word `s / 64` stands for set `s`.
-#[derive(Clone, Copy, Debug, PartialEq, Eq)]
-pub struct SetBits {
-    pub bits: [u64; 8],
-}
-
 /// The least and the greatest value of a resource at a vertex, both allowed.
 #[derive(Clone, Copy, Debug, PartialEq, Eq)]
 pub struct Window {
