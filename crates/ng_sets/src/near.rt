@@ -1,4 +1,4 @@
-ghost use Rattle.std.specs.Prelude.{◌≡◌, ℕ, IfOk};
+ghost use Rattle.std.specs.Prelude.{◌≡◌, IfOk};
 ghost use Rattle.ng_sets.specs.Near.{near_at, FitsGraphs, HasNone, IsVertex, KeepsOthers, HasShape, IsNothingNear};
 
 use path_graph::{Graph, List, NoMemory, SetBits};

@@ -3,7 +3,7 @@ ghost use Rattle.path_graph.specs.SetBits.{has_set, HasNoMember, IsWith, IsMeet,
 
 /// A set of packing sets, by number: bit `s % 64` of word `s / 64` stands for set `s`.
 ///
-/// Contracts see it by its members, which are numbers below 512. Each call takes the same time whatever the members.
+/// Contracts see it by its members, which are numbers below 512. Each call looks at eight words at most.
 #[derive(Clone, Copy, Debug, PartialEq, Eq)]
 pub struct SetBits {
     pub bits: [u64; 8],

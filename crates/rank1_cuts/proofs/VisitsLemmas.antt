@@ -1,13 +1,14 @@
 -- Lemmas on states and coefficients.
-use Rattle.std.proofs.Common.{◌≡◌, ℕ, ◌+◌, ◌-◌, ◌*◌, ◌<◌, ◌≤◌, List, [], ◌∷◌, ◌++◌, Option, None, Some, length, ◌==◌, suc, mul-add, refl, ◌∙◌, arith, inl, inr}
+use Rattle.std.proofs.Common.{◌≡◌, ℕ, ◌+◌, ◌-◌, ◌*◌, ◌/◌, ◌<◌, ◌≤◌, List, [], ◌∷◌, ◌++◌, Option, None, Some, length, ◌==◌, true, suc, mul-add, mul_comm, get_or, refl, sym, ◌∙◌, ap, arith, inl, inr}
 use Rattle.std.specs.Prelude.{nat_le, if◌then◌else◌, sum_by}
 use Rattle.std.proofs.lemmas.List.Sums.{sum_by-cons}
-use Rattle.std.proofs.lemmas.Bool.{cond_both, cases_Bool, leb-true, leb-false}
+use Rattle.std.proofs.lemmas.Nat.{div-mul-add}
+use Rattle.std.proofs.lemmas.Bool.{cond-true, cond_both, cases_Bool, leb-true, leb-false}
 use Rattle.path_graph.specs.SetBits.{has_set}
 use Rattle.rank1_cuts.specs.declared.cut.Cut.{Cut}
 use Rattle.rank1_cuts.specs.declared.cut.CutSet.{CutSet}
 use Rattle.rank1_cuts.specs.Fit.{item_at, CutFits}
-use Rattle.rank1_cuts.specs.Visits.{numerator_of, numerator_at, gathered, rises, state_after, state_from, rises_from}
+use Rattle.rank1_cuts.specs.Visits.{numerator_of, numerator_at, gathered, rises, state_after, state_from, rises_from, coef_of}
 
 -- visits one after the other: the second begin at the state that the first leave
 pub state_from-append : (cut : Cut) (state : ℕ) (xs ys : List (Option ℕ)) → state_from cut state (xs ++ ys) ≡ state_from cut (state_from cut state xs) ys
@@ -81,3 +82,37 @@ rises_from-most cut state (visit ∷ rest) =
     let last : state_from cut state (visit ∷ rest) ≡ state_from cut after rest = refl in
     let sums : sum_by (numerator_at cut) (visit ∷ rest) ≡ numerator_at cut visit + sum_by (numerator_at cut) rest = sum_by-cons (numerator_at cut) visit rest in
     omega (arith, parts, last, sums, step, most, later)
+
+-- the visit is inside the memory, or of no set
+abbrev pub IsInside : Cut → Option ℕ → Type 0
+IsInside cut None = Unit {0}
+IsInside cut (Some s) = has_set cut.memory s ≡ true
+
+gathered-inside : (cut : Cut) (state : ℕ) (visit : Option ℕ) → IsInside cut visit → gathered cut state visit ≡ state + numerator_at cut visit
+gathered-inside cut state None h = omega arith
+gathered-inside cut state (Some s) h = cond-true (has_set cut.memory s) (state + numerator_of cut.sets s) 0 h
+
+-- where nothing is forgotten, the denominator times the coefficient and the state are the sum of the numerators
+rises_from-inside : (cut : Cut) (state : ℕ) (visits : List (Option ℕ)) → ((k : ℕ) → k < length visits → IsInside cut (get_or visits k None))
+    → cut.den * rises_from cut state visits + state_from cut state visits ≡ state + sum_by (numerator_at cut) visits
+rises_from-inside cut state [] inside = omega arith
+rises_from-inside cut state (visit ∷ rest) inside =
+    let after : ℕ = state_after cut state visit in
+    let later = rises_from-inside cut after rest (λ k l. inside (suc k) (omega arith)) in
+    let step = step_counts cut state visit in
+    let here = gathered-inside cut state visit (inside 0 (omega arith)) in
+    let one : ℕ = if rises cut state visit then 1 else 0 in
+    let parts : cut.den * rises_from cut state (visit ∷ rest) ≡ cut.den * one + cut.den * rises_from cut after rest = mul-add cut.den one (rises_from cut after rest) in
+    let last : state_from cut state (visit ∷ rest) ≡ state_from cut after rest = refl in
+    let sums : sum_by (numerator_at cut) (visit ∷ rest) ≡ numerator_at cut visit + sum_by (numerator_at cut) rest = sum_by-cons (numerator_at cut) visit rest in
+    omega (arith, parts, last, sums, step, here, later)
+
+-- with all visits inside the memory the coefficient is the sum of their numerators over the denominator, rounded down
+pub coef_of-inside : (cut : Cut) (visits : List (Option ℕ)) → CutFits cut → ((k : ℕ) → k < length visits → IsInside cut (get_or visits k None))
+    → coef_of cut visits ≡ sum_by (numerator_at cut) visits / cut.den
+coef_of-inside cut visits fits inside =
+    let some : 0 < cut.den = omega (arith, fits.denominator.0) in
+    let below = state_from-below cut 0 visits fits some in
+    let whole = rises_from-inside cut 0 visits inside in
+    let turned : coef_of cut visits * cut.den + state_from cut 0 visits ≡ sum_by (numerator_at cut) visits = omega (arith, whole, mul_comm (coef_of cut visits) cut.den) in
+    sym (ap (λ (n : ℕ). n / cut.den) (sym turned) ∙ div-mul-add (coef_of cut visits) cut.den (state_from cut 0 visits) below)

@@ -1,5 +1,5 @@
-ghost use Rattle.std.specs.Prelude.{◌≡◌, ◌↔◌, IsTrue, IsOk, ℕ, ◌+◌, ◌*◌, ◌/◌, ◌<◌, ◌≤◌, length, MatchOption, sum_by};
-ghost use Rattle.rank1_cuts.specs.Fit.{IsDenominator, Stands, IsRepeated, IsNumerator, HasNumerator, EachBelow, IsFirst, CutFits, IsFault, right_side_of};
+ghost use Rattle.std.specs.Prelude.{◌≡◌, ◌↔◌, IsTrue, IsOk, ◌<◌, ◌≤◌, length, MatchOption, sum_by};
+ghost use Rattle.rank1_cuts.specs.Fit.{Stands, IsRepeated, IsNumerator, HasNumerator, EachBelow, IsFirst, CutFits, IsFault, right_side_of};
 
 use crate::cut::{Cut, CutFault, CutSet};
 

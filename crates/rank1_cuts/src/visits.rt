@@ -1,4 +1,4 @@
-ghost use Rattle.std.specs.Prelude.{◌≡◌, ℕ, ◌+◌, ◌<◌, ◌≤◌, length};
+ghost use Rattle.std.specs.Prelude.{◌≡◌, ◌<◌};
 ghost use Rattle.rank1_cuts.specs.Fit.{CutFits};
 ghost use Rattle.rank1_cuts.specs.Visits.{numerator_of, rises, state_after, coef_of};
 
