@@ -1,0 +1,27 @@
+-- The walks of entries: the choices over which their labels came from the root.
+use Rattle.std.specs.Prelude.{◌≡◌, ℕ, Some, None, List, [], ◌∷◌, reverse}
+use Rattle.label_core.specs.declared.table.Place.{Place}
+use Rattle.label_core.specs.declared.table.Origin.{Origin}
+use Rattle.label_core.specs.declared.table.Entry.{Entry}
+use Rattle.label_core.specs.Tables.{Cells, StandsAt}
+
+-- the origin with this parent and this arc
+abbrev pub origin : Place → ℕ → Origin
+origin q k = record { parent = q; arc = k }
+
+module _ {L : Type 0} where
+  -- the origins lead from p back over these arcs, the last one first, to an entry without origin
+  abbrev pub LeadsBack : Cells L → Place → List ℕ → Type 0
+  LeadsBack t p [] = (e : Entry L) × StandsAt t p e × (e.origin ≡ None)
+  LeadsBack t p (k ∷ arcs) = (e : Entry L) × StandsAt t p e × (q : Place)
+      × (e.origin ≡ Some (origin q k)) × LeadsBack t q arcs
+
+  -- the arcs are the partial walk of the entry at p: those of the origins, from the root on
+  abbrev pub IsWalkOf : Cells L → Place → List ℕ → Type 0
+  IsWalkOf t p arcs = LeadsBack t p (reverse arcs)
+
+  -- Each entry has a partial walk, and no two have the same origin: one alone, the root, has none
+  pub record HasOrigins (t : Cells L) : Type 0 where
+    pub walk : (p : Place) (e : Entry L) → StandsAt t p e → (arcs : List ℕ) × LeadsBack t p arcs
+    pub differ : (p q : Place) (e d : Entry L) → StandsAt t p e → StandsAt t q d
+        → e.origin ≡ d.origin → p ≡ q
