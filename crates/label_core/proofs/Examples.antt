@@ -7,10 +7,10 @@ use Rattle.label_core.specs.declared.table.Fate.TheVariants.{Void, At}
 use Rattle.label_core.specs.declared.table.Turn.TheVariants.{Fresh, Claimed, Done}
 use Rattle.label_core.specs.declared.table.Entry.{Entry}
 use Rattle.label_core.specs.Tables.{Cells, place, StandsAt, entry_count, HasKept}
-use Rattle.label_core.specs.Walks.{origin, LeadsBack, IsWalkOf}
+use Rattle.label_core.specs.Walks.{origin, Reaches, LeadsBack, IsWalkOf}
 use Rattle.label_core.specs.Points.{LinksOver}
 use Rattle.label_core.specs.Puts.{opening, fresh, gone_by, with_turn, set_at, put, MayGo}
-use Rattle.label_core.specs.Closed.{Covers, Reaches}
+use Rattle.label_core.specs.Closed.{Covers}
 use Rattle.label_core.specs.Fates.{IsLegal}
 
 -- over the one choice 5 becomes 3 and 3 becomes 1; each is dominated by what is less
