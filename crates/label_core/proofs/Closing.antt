@@ -1,5 +1,5 @@
 -- A sound table whose kept entries are done is closed, and represents every list of choices.
-use Rattle.std.proofs.Common.{◌≡◌, ℕ, ◌<◌, Some, None, List, [], ◌∷◌, length, take, refl, sym, ◌∙◌, subst}
+use Rattle.std.proofs.Common.{◌≡◌, ℕ, ◌<◌, Some, None, List, [], ◌∷◌, take, refl, sym, ◌∙◌, subst}
 use Rattle.label_space.specs.Rules.{Rules, Fits, Dominates, Extends}
 use Rattle.label_space.specs.Laws.{IsLawful}
 use Rattle.label_core.specs.declared.table.Place.{Place}
@@ -29,7 +29,7 @@ module _ {L : Type 0} (r : Rules L) (law : IsLawful r) where
         let y = law.extends_too a l k n fa f dom x in
         let b = closed.1 a k y.0 has y.1 in
         covered_from rest n m fn
-          (b.0, b.1, law.transitive b.0 y.0 n (all_fit b.0 b.1) (law.extension_fits a k y.0 fa y.1) fn b.2 y.2) on
+        (b.0, b.1, law.transitive b.0 y.0 n (all_fit b.0 b.1) (law.extension_fits a k y.0 fa y.1) fn b.2 y.2) on
 
     pub closed_represents : RepresentsAll r Has
     closed_represents = λ choices m reached n l on. covered_from (take n choices) r.root l law.root_fits closed.0 on
@@ -44,10 +44,12 @@ module _ {L : Type 0} (r : Rules L) (law : IsLawful r) where
         (z.label, (p, z, s', k, refl), subst (λ (v : Entry L). Dominates r z.label v.label) (same_entry t p z e s' s) (law.reflexive z.label (sound.at_home p z s').0))
     links_dominate (q ∷ path) p e s (z, s', g, rest) =
         let link = sound.links.linked p q z s' g in
-        let last = links_dominate path q link.0 link.1 rest in
-        (last.0, last.1,
-            subst (λ (v : Entry L). Dominates r last.0 v.label) (same_entry t p z e s' s)
-            (law.transitive last.0 link.0.label z.label (kept_fits last.0 last.1) (sound.at_home q link.0 link.1).0 (sound.at_home p z s').0 last.2 link.2))
+        let last = links_dominate path q link.0 link.1 rest in (
+          last.0,
+          last.1,
+          subst (λ (v : Entry L). Dominates r last.0 v.label) (same_entry t p z e s' s)
+              (law.transitive last.0 link.0.label z.label (kept_fits last.0 last.1) (sound.at_home q link.0 link.1).0 (sound.at_home p z s').0 last.2 link.2),
+        )
 
     -- a kept entry dominates each entry
     pub entry_covered : (p : Place) (e : Entry L) → StandsAt t p e → Covers r (HasKept t) e.label

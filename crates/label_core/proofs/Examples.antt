@@ -1,15 +1,15 @@
 -- Worked rows about tables of labels.
-use Rattle.std.specs.Prelude.{◌≡◌, ℕ, ◌+◌, ◌-◌, Bool, true, false, pos, nat_le, cond, Option, Some, None, List, [], ◌∷◌, refl}
+use Rattle.std.specs.Prelude.{◌≡◌, ℕ, ◌-◌, true, pos, nat_le, cond, Some, None, [], ◌∷◌, refl}
 use Rattle.std.proofs.Common.{◌<◌, lit<}
 use Rattle.label_space.specs.Rules.{Rules}
 use Rattle.label_core.specs.declared.table.Place.{Place}
-use Rattle.label_core.specs.declared.table.Fate.TheVariants.{Void, At}
-use Rattle.label_core.specs.declared.table.Turn.TheVariants.{Fresh, Claimed, Done}
+use Rattle.label_core.specs.declared.table.Fate.TheVariants.{Void}
+use Rattle.label_core.specs.declared.table.Turn.TheVariants.{Done}
 use Rattle.label_core.specs.declared.table.Entry.{Entry}
 use Rattle.label_core.specs.Tables.{Cells, place, StandsAt, entry_count, HasKept}
 use Rattle.label_core.specs.Walks.{origin, Reaches, LeadsBack, IsWalkOf}
 use Rattle.label_core.specs.Points.{LinksOver}
-use Rattle.label_core.specs.Puts.{opening, fresh, gone_by, with_turn, set_at, put, MayGo}
+use Rattle.label_core.specs.Puts.{opening, fresh, gone_by, with_turn, set_at, put}
 use Rattle.label_core.specs.Closed.{Covers}
 use Rattle.label_core.specs.Fates.{IsLegal}
 
@@ -23,7 +23,7 @@ steps = record {
   degree = λ _. 1;
   level = λ n. pos n;
   extend = λ n _. cond (nat_le 2 n) (Some (n - 2)) None;
-  dominates = nat_le
+  dominates = nat_le;
 }
 
 abbrev five : Entry ℕ

@@ -6,4 +6,5 @@ pub mod Putting
 pub mod Marking
 pub mod Closing
 pub mod Walking
+pub mod Trail
 pub mod Opening

@@ -1,5 +1,5 @@
 -- Entries by their place.
-use Rattle.std.proofs.Common.{◌≡◌, ◌≢◌, ◌⊎◌, ℕ, zero, suc, ◌<◌, Option, Some, List, [], ◌∷◌, ◌++◌, length, set, get_or, refl, sym, ap, ◌∙◌, subst, inl, inr, ⊎_elim, arith}
+use Rattle.std.proofs.Common.{◌≡◌, ◌≢◌, ◌⊎◌, ℕ, zero, suc, ◌<◌, Some, List, [], ◌∷◌, ◌++◌, length, set, get_or, refl, sym, ap, ◌∙◌, subst, inl, inr, ⊎_elim, arith}
 use Rattle.std.proofs.lemmas.List.{get_or-set_same, get_or-set_other}
 use Rattle.std.proofs.lemmas.Option.{slice_get_within}
 use Rattle.std.specs.Prelude.{slice_get}
@@ -101,11 +101,11 @@ module _ {L : Type 0} where
       → slice_get (entries_of (set_at t p e) q.cell) q.index ≡ slice_get (entries_of t q.cell) q.index
   set_else t p e d s q n = dite (ℕ_discrete q.cell p.cell)
       (λ same. let in_cell : entries_of (set_at t p e) q.cell ≡ set (entries_of t p.cell) p.index e
-            = ap (λ k. entries_of (set_at t p e) k) same
-            ∙ entries_set_here t p.cell (set (entries_of t p.cell) p.index e) (cell_there t p.cell p.index d s) in
-        ap (λ es. slice_get es q.index) in_cell
-        ∙ at_set_else (entries_of t p.cell) p.index q.index e (λ i. n (same_place q p same i))
-        ∙ ap (λ k. slice_get (entries_of t k) q.index) (sym same))
+      = ap (λ k. entries_of (set_at t p e) k) same
+      ∙ entries_set_here t p.cell (set (entries_of t p.cell) p.index e) (cell_there t p.cell p.index d s) in
+      ap (λ es. slice_get es q.index) in_cell
+      ∙ at_set_else (entries_of t p.cell) p.index q.index e (λ i. n (same_place q p same i))
+      ∙ ap (λ k. slice_get (entries_of t k) q.index) (sym same))
       (λ other. ap (λ es. slice_get es q.index) (entries_set_else t p.cell q.cell (set (entries_of t p.cell) p.index e) other))
 
   -- what stands at a place after one entry was replaced

@@ -1,5 +1,5 @@
 -- A new entry keeps the table sound.
-use Rattle.std.proofs.Common.{◌≡◌, ◌≢◌, ◌⊎◌, ℕ, ◌<◌, Bool, true, false, cond, Option, Some, None, List, [], ◌∷◌, ◌++◌, length, map, refl, sym, ap, ◌∙◌, subst, inl, inr, ⊎_elim, arith}
+use Rattle.std.proofs.Common.{◌≡◌, ◌≢◌, ◌⊎◌, ℕ, ◌<◌, Bool, true, false, cond, Option, Some, None, List, [], ◌∷◌, length, map, refl, sym, ap, ◌∙◌, subst, inl, inr, ⊎_elim, arith}
 use Rattle.std.proofs.lemmas.List.{length-set, length-map}
 use Rattle.std.proofs.lemmas.Option.{slice_get-map}
 use Rattle.std.specs.Prelude.{slice_get, ◌&&◌, option_map}
@@ -14,7 +14,7 @@ use Rattle.label_core.specs.Tables.{Cells, place, entries_of, StandsAt, IsKept}
 use Rattle.label_core.specs.Walks.{LeadsBack}
 use Rattle.label_core.specs.Points.{LinksOver, IsSound}
 use Rattle.label_core.specs.Puts.{is_none, gone_by, beside, put_into, put, MayPut}
-use Rattle.label_core.proofs.Lookup.{at_end, at_front, front_or_end, same_place, same_entry, entries_set_here, entries_set_else}
+use Rattle.label_core.proofs.Lookup.{at_end, at_front, front_or_end, same_place, entries_set_here, entries_set_else}
 use Rattle.label_core.proofs.Stays.{Stays, leads_back_still, root_still, parent_still}
 
 some_mapped : {A : Type 0} (f : A → A) (o : Option A) (b : A) → option_map f o ≡ Some b → (a : A) × (o ≡ Some a) × (f a ≡ b)
@@ -33,9 +33,11 @@ module _ {L : Type 0} (r : Rules L) where
       kept_is : (o : Option Place) → is_none o ≡ true → o ≡ None
       kept_is None h = refl
       kept_is (Some x) h = absurd (cc)
+
       gone_is : (o : Option Place) → is_none o ≡ false → o ≡ None → ⊥
       gone_is None h k = (cc)
       gone_is (Some x) h k = (cc)
+
       cases : (a : Bool) → is_none e.gone ≡ a → (b : Bool) → r.dominates l e.label ≡ b → Beside l q e (cond (a && b) (gone_by q e) e)
       cases true h true d = goes (kept_is e.gone h) d
       cases true h false d = stays (λ _. d)
@@ -74,12 +76,16 @@ module _ {L : Type 0} (r : Rules L) where
               let s' = subst (λ es. slice_get es p.index ≡ Some e) (entries_here p is) s in
               ⊎_elim
               (λ old.
-                let was = some_mapped (beside r new.label at) (slice_get (entries_of t c) p.index) e (sym (slice_get-map (beside r new.label at) (entries_of t c) p.index) ∙ old) in
-                inr (was.0, subst (λ k. slice_get (entries_of t k) p.index ≡ Some was.0) (sym is) was.1,
-                    came p was.0 e is (subst (λ x. Beside new.label at was.0 x) was.2 (beside_cases new.label at was.0))))
+              let was = some_mapped (beside r new.label at) (slice_get (entries_of t c) p.index) e (sym (slice_get-map (beside r new.label at) (entries_of t c) p.index) ∙ old) in
+              inr (
+                was.0,
+                subst (λ k. slice_get (entries_of t k) p.index ≡ Some was.0) (sym is) was.1,
+                came p was.0 e is (subst (λ x. Beside new.label at was.0 x) was.2 (beside_cases new.label at was.0)),
+              ))
               (λ (last : (p.index ≡ length (map (beside r new.label at) (entries_of t c))) × (new ≡ e)).
-                inl (same_place p at is (last.0 ∙ length-map (entries_of t c) (beside r new.label at)), sym last.1))
+              inl (same_place p at is (last.0 ∙ length-map (entries_of t c) (beside r new.label at)), sym last.1))
               (front_or_end (map (beside r new.label at) (entries_of t c)) new e p.index s')
+
           else : p.cell ≢ c → Came p e
           else apart = inr (e, subst (λ es. slice_get es p.index ≡ Some e) (entries_else p apart) s, same (λ is. absurd (apart is)))
 
@@ -93,12 +99,14 @@ module _ {L : Type 0} (r : Rules L) where
         where
           here : p.cell ≡ c → (e : Entry L) × StandsAt (put r t c new) p e × Became p d e
           here is =
-              let s' = subst (λ k. slice_get (entries_of t k) p.index ≡ Some d) is s in
-              (beside r new.label at d,
+              let s' = subst (λ k. slice_get (entries_of t k) p.index ≡ Some d) is s in (
+                beside r new.label at d,
                 subst (λ es. slice_get es p.index ≡ Some (beside r new.label at d)) (sym (entries_here p is))
-                (at_front (map (beside r new.label at) (entries_of t c)) new (beside r new.label at d) p.index
-                  (slice_get-map (beside r new.label at) (entries_of t c) p.index ∙ ap (option_map (beside r new.label at)) s')),
-                came p d (beside r new.label at d) is (beside_cases new.label at d))
+                    (at_front (map (beside r new.label at) (entries_of t c)) new (beside r new.label at d) p.index
+                    (slice_get-map (beside r new.label at) (entries_of t c) p.index ∙ ap (option_map (beside r new.label at)) s')),
+                came p d (beside r new.label at d) is (beside_cases new.label at d),
+              )
+
           else : p.cell ≢ c → (e : Entry L) × StandsAt (put r t c new) p e × Became p d e
           else apart = (d, subst (λ es. slice_get es p.index ≡ Some d) (sym (entries_else p apart)) s, same (λ is. absurd (apart is)))
 
@@ -171,13 +179,13 @@ module _ {L : Type 0} (r : Rules L) where
             let here : p.cell ≡ c = one ∙ ap (λ (z : Place). z.cell) b.0 in
             subst (λ (y : Entry L). r.dominates e.label y.label ≡ false) (sym b.1)
             (subst (λ (y : Entry L). r.dominates y.label new.label ≡ false) k.0
-              (may.uncovered p.index x (subst (λ n. slice_get (entries_of t n) p.index ≡ Some x) here s) (subst (λ (y : Entry L). IsKept y) (sym k.0) ke)))
+            (may.uncovered p.index x (subst (λ n. slice_get (entries_of t n) p.index ≡ Some x) here s) (subst (λ (y : Entry L). IsKept y) (sym k.0) ke)))
         both (inr (x, s, was)) (inr (y, s', was')) =
             let k = still_kept t c new p x e was ke in
             let k' = still_kept t c new q y d was' kd in
             subst (λ (z : Entry L). r.dominates z.label d.label ≡ false) k.0
             (subst (λ (z : Entry L). r.dominates x.label z.label ≡ false) k'.0
-              (sound.apart p q x y s s' one two (subst (λ (z : Entry L). IsKept z) (sym k.0) ke) (subst (λ (z : Entry L). IsKept z) (sym k'.0) kd)))
+            (sound.apart p q x y s s' one two (subst (λ (z : Entry L). IsKept z) (sym k.0) ke) (subst (λ (z : Entry L). IsKept z) (sym k'.0) kd)))
 
     home_still : (p : Place) (e : Entry L) → StandsAt after p e → Fits r e.label × (r.cell e.label ≡ p.cell)
     home_still p e s = one (back p e s)
@@ -194,9 +202,11 @@ module _ {L : Type 0} (r : Rules L) where
       where
         one : Came t c new p e → (arcs : List ℕ) × LeadsBack after p arcs
         one (inl a) =
-            let before = sound.origins.lead_back o.parent may.parent.0 may.parent.1 in
-            (o.arc ∷ before.0, subst (λ z. LeadsBack after z (o.arc ∷ before.0)) (sym a.0)
-                (new, stands, o.parent, may.origin_is, leads_back_still t after put_stays before.0 o.parent before.1))
+            let before = sound.origins.lead_back o.parent may.parent.0 may.parent.1 in (
+              o.arc ∷ before.0,
+              subst (λ z. LeadsBack after z (o.arc ∷ before.0)) (sym a.0)
+                  (new, stands, o.parent, may.origin_is, leads_back_still t after put_stays before.0 o.parent before.1),
+            )
         one (inr (d, s', was)) = let before = sound.origins.lead_back p d s' in (before.0, leads_back_still t after put_stays before.0 p before.1)
 
     differ_still : (p q : Place) (e d : Entry L) → StandsAt after p e → StandsAt after q d → e.origin ≡ d.origin → p ≡ q
@@ -232,6 +242,7 @@ module _ {L : Type 0} (r : Rules L) where
             let f = forth q link.0 link.1 in
             (f.0, f.1, subst (λ l. Dominates r l d.label) (sym (label_stays t c new q link.0 f.0 f.2)) link.2)
         been d s' x (went here k dom) g' = (new, subst (λ z. StandsAt after z new) (cc) stands, dom)
+
         one : Came t c new p e → (d : Entry L) × StandsAt after q d × Dominates r d.label e.label
         one (inl a) = absurd (let k = may.kept in cc (ap (λ (y : Entry L). y.gone) a.1))
         one (inr (d, s', was)) = been d s' e was g
@@ -251,5 +262,5 @@ module _ {L : Type 0} (r : Rules L) where
       origins = record { lead_back = leads_still; differ = differ_still };
       labels = record { root = root_still r t after put_stays sound.labels; extended = extended_still };
       links = record { linked = linked_still; kept_at_last = kept_still };
-      apart = apart_still
+      apart = apart_still;
     }

@@ -1,8 +1,7 @@
 -- What a change keeps that leaves each entry's place, label and origin.
-use Rattle.std.proofs.Common.{◌≡◌, ℕ, None, Some, List, [], ◌∷◌, sym, ◌∙◌, ap, subst}
+use Rattle.std.proofs.Common.{◌≡◌, ℕ, None, List, [], ◌∷◌, sym, ◌∙◌, subst}
 use Rattle.label_space.specs.Rules.{Rules, Fits, Dominates, Extends}
 use Rattle.label_core.specs.declared.table.Place.{Place}
-use Rattle.label_core.specs.declared.table.Origin.{Origin}
 use Rattle.label_core.specs.declared.table.Fate.{Fate}
 use Rattle.label_core.specs.declared.table.Fate.TheVariants.{Void, At}
 use Rattle.label_core.specs.declared.table.Entry.{Entry}
@@ -56,14 +55,14 @@ module _ {L : Type 0} where
       origins_still origins = record {
         lead_back = λ p e s. let b = back p e s in let w = origins.lead_back p b.0 b.1 in (w.0, leads_back_still t u forth w.0 p w.1);
         differ = λ p q e d sp sq is. let b = back p e sp in let c = back q d sq in
-            origins.differ p q b.0 c.0 b.1 c.1 (b.3 ∙ is ∙ sym c.3)
+            origins.differ p q b.0 c.0 b.1 c.1 (b.3 ∙ is ∙ sym c.3);
       }
 
       pub labels_still : HasLabels r t → HasLabels r u
       labels_still labels = record {
         root = root_still t u forth labels;
         extended = λ p e o s from.
-          let b = back p e s in
-          let x = labels.extended p b.0 o b.1 (b.3 ∙ from) in
-          parent_still t u forth o.parent o.arc e.label (subst (λ l. (d : Entry L) × StandsAt t o.parent d × Extends r d.label o.arc l) b.2 x)
+            let b = back p e s in
+            let x = labels.extended p b.0 o b.1 (b.3 ∙ from) in
+            parent_still t u forth o.parent o.arc e.label (subst (λ l. (d : Entry L) × StandsAt t o.parent d × Extends r d.label o.arc l) b.2 x);
       }

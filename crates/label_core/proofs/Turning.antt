@@ -1,11 +1,11 @@
 -- Another turn at an entry keeps the table sound.
-use Rattle.std.proofs.Common.{◌≡◌, ◌≢◌, ◌⊎◌, ℕ, false, Some, List, [], ◌∷◌, set, refl, sym, ap, ◌∙◌, subst, ⊎_elim}
+use Rattle.std.proofs.Common.{◌≡◌, ◌≢◌, false, List, [], ◌∷◌, set, refl, sym, ap, ◌∙◌, subst, ⊎_elim}
 use Rattle.std.proofs.lemmas.List.{length-set}
 use Rattle.label_space.specs.Rules.{Rules, Dominates}
 use Rattle.label_core.specs.declared.table.Place.{Place}
 use Rattle.label_core.specs.declared.table.Turn.{Turn}
 use Rattle.label_core.specs.declared.table.Entry.{Entry}
-use Rattle.label_core.specs.Tables.{Cells, entries_of, StandsAt, IsKept}
+use Rattle.label_core.specs.Tables.{Cells, entries_of, StandsAt}
 use Rattle.label_core.specs.Points.{LinksOver, IsSound}
 use Rattle.label_core.specs.Puts.{set_at, with_turn}
 use Rattle.label_core.proofs.Lookup.{same_or_apart, same_entry, set_here, set_else, set_back}
@@ -22,16 +22,25 @@ module _ {L : Type 0} (t : Cells L) (p : Place) (e : Entry L) (turn : Turn) (sta
 
   pub turn_forth : Alike t turned
   turn_forth q x s = ⊎_elim
-      (λ same. let is : x ≡ e = same_entry t p x e (subst (λ z. StandsAt t z x) same s) stands in
-        (with_turn turn e, subst (λ z. StandsAt turned z (with_turn turn e)) (sym same) (set_here t p (with_turn turn e) e stands),
-            ap (λ (z : Entry L). z.label) (sym is), ap (λ (z : Entry L). z.origin) (sym is), ap (λ (z : Entry L). z.gone) (sym is)))
+      (λ same. let is : x ≡ e = same_entry t p x e (subst (λ z. StandsAt t z x) same s) stands in (
+        with_turn turn e,
+        subst (λ z. StandsAt turned z (with_turn turn e)) (sym same) (set_here t p (with_turn turn e) e stands),
+        ap (λ (z : Entry L). z.label) (sym is),
+        ap (λ (z : Entry L). z.origin) (sym is),
+        ap (λ (z : Entry L). z.gone) (sym is),
+      ))
       (λ n. (x, set_else t p (with_turn turn e) e stands q n ∙ s, refl, refl, refl))
       (same_or_apart q p)
 
   pub turn_back : Alike turned t
   turn_back q y s = ⊎_elim
-      (λ (a : (q ≡ p) × (y ≡ with_turn turn e)). (e, subst (λ z. StandsAt t z e) (sym a.0) stands,
-          ap (λ (z : Entry L). z.label) (sym a.1), ap (λ (z : Entry L). z.origin) (sym a.1), ap (λ (z : Entry L). z.gone) (sym a.1)))
+      (λ (a : (q ≡ p) × (y ≡ with_turn turn e)). (
+        e,
+        subst (λ z. StandsAt t z e) (sym a.0) stands,
+        ap (λ (z : Entry L). z.label) (sym a.1),
+        ap (λ (z : Entry L). z.origin) (sym a.1),
+        ap (λ (z : Entry L). z.gone) (sym a.1),
+      ))
       (λ (a : (q ≢ p) × StandsAt t q y). (y, a.1, refl, refl, refl))
       (set_back t p (with_turn turn e) e stands q y s)
 
@@ -54,14 +63,14 @@ module _ {L : Type 0} (t : Cells L) (p : Place) (e : Entry L) (turn : Turn) (sta
     labels = labels_still r t turned turn_stays turn_was sound.labels;
     links = record {
       linked = λ x y z s g.
-        let b = turn_back x z s in
-        let link = sound.links.linked x y b.0 b.1 (b.4 ∙ g) in
-        let f = turn_forth y link.0 link.1 in
-        (f.0, f.1, subst (λ l. Dominates r l z.label) (sym f.2) (subst (λ l. Dominates r link.0.label l) b.2 link.2));
-      kept_at_last = λ x z s. let b = turn_back x z s in let w = sound.links.kept_at_last x b.0 b.1 in (w.0, links_still w.0 x w.1)
+          let b = turn_back x z s in
+          let link = sound.links.linked x y b.0 b.1 (b.4 ∙ g) in
+          let f = turn_forth y link.0 link.1 in
+          (f.0, f.1, subst (λ l. Dominates r l z.label) (sym f.2) (subst (λ l. Dominates r link.0.label l) b.2 link.2));
+      kept_at_last = λ x z s. let b = turn_back x z s in let w = sound.links.kept_at_last x b.0 b.1 in (w.0, links_still w.0 x w.1);
     };
     apart = λ x y z v sx sy one two kz kv.
-      let b = turn_back x z sx in
-      let c = turn_back y v sy in
-      subst (λ l. r.dominates l v.label ≡ false) b.2 (subst (λ l. r.dominates b.0.label l ≡ false) c.2 (sound.apart x y b.0 c.0 b.1 c.1 one two (b.4 ∙ kz) (c.4 ∙ kv)))
+        let b = turn_back x z sx in
+        let c = turn_back y v sy in
+        subst (λ l. r.dominates l v.label ≡ false) b.2 (subst (λ l. r.dominates b.0.label l ≡ false) c.2 (sound.apart x y b.0 c.0 b.1 c.1 one two (b.4 ∙ kz) (c.4 ∙ kv)));
   }

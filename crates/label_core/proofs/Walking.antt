@@ -3,12 +3,11 @@ use Rattle.std.proofs.Common.{◌≡◌, ℕ, Some, None, List, [], ◌∷◌, �
 use Rattle.std.proofs.lemmas.List.{reverse-append, reverse-reverse}
 use Rattle.label_space.specs.Rules.{Rules, Extends}
 use Rattle.label_core.specs.declared.table.Place.{Place}
-use Rattle.label_core.specs.declared.table.Origin.{Origin}
 use Rattle.label_core.specs.declared.table.Entry.{Entry}
 use Rattle.label_core.specs.Tables.{Cells, StandsAt}
-use Rattle.label_core.specs.Walks.{origin, Reaches, LeadsBack, IsWalkOf, HasOrigins, AreDifferentWalks}
+use Rattle.label_core.specs.Walks.{origin, Reaches, LeadsBack, HasOrigins, AreDifferentWalks}
 use Rattle.label_core.specs.Points.{HasLabels, IsSound}
-use Rattle.label_core.proofs.Lookup.{some_same, same_entry}
+use Rattle.label_core.proofs.Lookup.{same_entry}
 
 module _ {L : Type 0} where
   -- one choice more
@@ -43,8 +42,10 @@ module _ {L : Type 0} where
   pub sound_walks_differ : (r : Rules L) (t : Cells L) → IsSound r t → AreDifferentWalks r t
   sound_walks_differ r t sound = record {
     walk = λ p e s.
-      let back = sound.origins.lead_back p e s in
-      (reverse back.0, subst (λ arcs. LeadsBack t p arcs) (sym (reverse-reverse back.0)) back.1,
-          back_reaches t sound.origins r sound.labels back.0 p e s back.1);
-    differ = λ p q arcs a b. one_place_back t sound.origins (reverse arcs) p q a b
+        let back = sound.origins.lead_back p e s in (
+          reverse back.0,
+          subst (λ arcs. LeadsBack t p arcs) (sym (reverse-reverse back.0)) back.1,
+          back_reaches t sound.origins r sound.labels back.0 p e s back.1,
+        );
+    differ = λ p q arcs a b. one_place_back t sound.origins (reverse arcs) p q a b;
   }

@@ -4,8 +4,7 @@ use Rattle.label_space.specs.Rules.{Rules, Dominates, Extends}
 use Rattle.label_core.specs.declared.table.Place.{Place}
 use Rattle.label_core.specs.declared.table.Fate.{Fate}
 use Rattle.label_core.specs.declared.table.Fate.TheVariants.{Void, At}
-use Rattle.label_core.specs.declared.table.Turn.{Turn}
-use Rattle.label_core.specs.declared.table.Turn.TheVariants.{Fresh, Claimed, Done}
+use Rattle.label_core.specs.declared.table.Turn.TheVariants.{Done}
 use Rattle.label_core.specs.declared.table.Entry.{Entry}
 use Rattle.label_core.specs.Tables.{Cells, StandsAt, IsKept}
 

@@ -1,5 +1,5 @@
 -- What holds of the entries of a table at any time, however it is filled.
-use Rattle.std.specs.Prelude.{◌≡◌, ◌≢◌, ℕ, Bool, false, Some, None, List, [], ◌∷◌, length}
+use Rattle.std.specs.Prelude.{◌≡◌, ◌≢◌, false, Some, None, List, [], ◌∷◌, length}
 use Rattle.label_space.specs.Rules.{Rules, Fits, Dominates, Extends}
 use Rattle.label_core.specs.declared.table.Place.{Place}
 use Rattle.label_core.specs.declared.table.Origin.{Origin}

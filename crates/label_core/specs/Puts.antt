@@ -1,10 +1,10 @@
 -- Two changes of a table: an entry is put, with the marks of what it takes away, or one is marked gone.
-use Rattle.std.specs.Prelude.{◌≡◌, ◌≢◌, ℕ, ◌<◌, Bool, true, false, cond, ◌&&◌, Option, Some, None, List, [], ◌∷◌, ◌++◌, length, map, replicate, slice_get, slice_set}
+use Rattle.std.specs.Prelude.{◌≡◌, ◌≢◌, ℕ, Bool, true, false, cond, ◌&&◌, Option, Some, None, List, [], ◌∷◌, ◌++◌, length, map, replicate, slice_get, slice_set}
 use Rattle.label_space.specs.Rules.{Rules, Fits, Dominates, Extends}
 use Rattle.label_core.specs.declared.table.Place.{Place}
 use Rattle.label_core.specs.declared.table.Origin.{Origin}
 use Rattle.label_core.specs.declared.table.Turn.{Turn}
-use Rattle.label_core.specs.declared.table.Turn.TheVariants.{Fresh, Claimed, Done}
+use Rattle.label_core.specs.declared.table.Turn.TheVariants.{Fresh}
 use Rattle.label_core.specs.declared.table.Entry.{Entry}
 use Rattle.label_core.specs.Tables.{Cells, place, entries_of, StandsAt, IsKept}
 

@@ -1,5 +1,5 @@
 -- Tables of labels: which entry stands where.
-use Rattle.std.specs.Prelude.{◌≡◌, ℕ, Option, Some, None, List, [], length, sum_by, slice_index_or, slice_get}
+use Rattle.std.specs.Prelude.{◌≡◌, ℕ, Some, None, List, [], length, sum_by, slice_index_or, slice_get}
 use Rattle.label_core.specs.declared.table.Place.{Place}
 use Rattle.label_core.specs.declared.table.Entry.{Entry}
 

@@ -22,9 +22,8 @@ pub fn walk_of<L>(alloc: Global, t: &Table<L>, at: Place) -> Result<path_graph::
 
 /// The arcs of the origins from an entry back to the root, the last arc first.
 fn arcs_back<L>(alloc: Global, t: &Table<L>, at: Place) -> Result<Vec<u32>, NoMemory>
-    ghost arcs: { List ℕ }
-    requires { LeadsBack t.now.cells at arcs }
-    ensures { IfOk result (λ back. back.items ≡ arcs) }
+    requires { (arcs : List ℕ) × LeadsBack t.now.cells at arcs }
+    ensures { IfOk result (λ back. LeadsBack t.now.cells at back.items) }
 {
     let mut back = Vec::new(alloc);
     let mut place = at;
