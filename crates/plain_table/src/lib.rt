@@ -1,13 +1,12 @@
-// A library with one function.
+//! The table of labels that one thread fills.
+//!
+//! From the root on, each kept label is extended over each of its choices, and of the labels of a
+//! cell those that another one dominates are taken away, until nothing is left to extend or the
+//! table has as many entries as it may.
 #![tactic(auto)]
 
-ghost use Rattle.std.specs.Prelude.{◌≡◌};
-ghost use Rattle.plain_table.specs.Echo.{echo_of};
+mod filling;
+mod steps;
+mod table;
 
-// The `ensures` clause is the contract: what `echo` returns is `echo_of` of its argument, a definition
-// in `specs/Echo.antt`, which a caller's clause can cite too.
-pub fn echo(x: usize) -> usize
-    ensures { result ≡ echo_of x }
-{
-    x
-}
+pub use table::{Filled, fill};
