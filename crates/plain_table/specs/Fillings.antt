@@ -46,12 +46,14 @@ module _ {L : Type 0} where
     -- Between two turns: each entry is done or waits
     pub record Fills (t : Cells L) (order : List Place) (next : ℕ) : Type 0 where
       pub steady : IsSteady t order
+      pub reached : next ≤ length order
       pub turns : (p : Place) (e : Entry L) → StandsAt t p e → IsInTurn t order next p e
 
     -- Within the turn of the entry at p, whose label is l: it has these fates so far, and is the
     -- parent over no further choice
     pub record Extending (t : Cells L) (order : List Place) (next : ℕ) (p : Place) (l : L) (fates : List Fate) : Type 0 where
       pub steady : IsSteady t order
+      pub reached : next ≤ length order
       pub here : (e : Entry L) × StandsAt t p e × (e.label ≡ l)
       pub others : (q : Place) (e : Entry L) → StandsAt t q e → q ≢ p → IsInTurn t order next q e
       pub children : (q : Place) (d : Entry L) (o : Origin) → StandsAt t q d → d.origin ≡ Some o

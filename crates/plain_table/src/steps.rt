@@ -1,4 +1,4 @@
-ghost use Rattle.std.specs.Prelude.{◌≡◌, ◌<◌, ◌+◌, ◌^◌, ◌++◌, ◌∷◌, [], ℕ, IfOk, OnOk, MatchOption, vec_len, length};
+ghost use Rattle.std.specs.Prelude.{◌≡◌, ◌<◌, ◌+◌, ◌^◌, ◌++◌, ◌∷◌, [], ℕ, IfOk, OnOk, MatchOption, length};
 ghost use Rattle.label_space.specs.Rules.{Fits};
 ghost use Rattle.label_core.specs.declared.table.Entry.{Entry};
 ghost use Rattle.label_core.specs.Tables.{StandsAt, entries_of};
@@ -22,7 +22,7 @@ pub fn work_on_next<S: Space>(
     filling: &mut Filling<S::Label>,
 ) -> Result<Step, NoMemory>
     requires filling { IsFilling (S.rules space.now) limit filling.old }
-    requires within { filling.old.next < vec_len filling.old.order }
+    requires within { filling.old.next < length filling.old.order.items }
     ensures went { result ≡ Ok Step.Went → IsFilling (S.rules space.now) limit filling.new }
     ensures wall { result ≡ Ok Step.Wall → IsAtWall (S.rules space.now) limit filling.new }
     ensures next { filling.new.next ≡ filling.old.next + 1 }
@@ -88,11 +88,11 @@ fn extend_once<S: Space>(
     filling: &mut Filling<S::Label>,
 ) -> Result<Step, NoMemory>
     requires filling { IsExtending (S.rules space.now) limit origin.parent label fates.old.items filling.old }
-    requires next_choice { vec_len fates.old ≡ origin.arc }
+    requires next_choice { length fates.old.items ≡ origin.arc }
     requires within { origin.arc < (S.rules space.now).degree label }
     ensures went { result ≡ Ok Step.Went
         → IsExtending (S.rules space.now) limit origin.parent label fates.new.items filling.new }
-    ensures longer { result ≡ Ok Step.Went → vec_len fates.new ≡ vec_len fates.old + 1 }
+    ensures longer { result ≡ Ok Step.Went → length fates.new.items ≡ length fates.old.items + 1 }
     ensures wall { result ≡ Ok Step.Wall → IsAtWall (S.rules space.now) limit filling.new }
     ensures next { filling.new.next ≡ filling.old.next }
 {
@@ -133,7 +133,7 @@ fn put<S: Space>(
     new: Entry<S::Label>,
     filling: &mut Filling<S::Label>,
 ) -> Result<Place, NoMemory>
-    requires cell { cell < vec_len filling.old.cells }
+    requires cell { cell < length filling.old.cells.items }
     requires label { Fits (S.rules space.now) new.label }
     requires each { EachFits (S.rules space.now) (entries_of filling.old.cells.items cell) }
     requires few { length (entries_of filling.old.cells.items cell) < 2 ^ 32 }
