@@ -1,6 +1,8 @@
 -- What one extension does to a table that is being filled, in the terms of the code.
-use Rattle.std.proofs.Common.{◌≡◌, ℕ, ◌<◌, ◌≤◌, Some, List, [], ◌∷◌, ◌++◌, length, get_or, sym, ap, ◌∙◌, subst, arith}
-use Rattle.std.proofs.lemmas.Option.{get_or_from_slice_get, slice_get-get_or}
+use Rattle.std.proofs.Common.{◌≡◌, ℕ, ◌<◌, ◌≤◌, Some, List, [], ◌∷◌, ◌++◌, length, get_or, take, drop, sym, ap, ◌∙◌, subst, arith}
+use Rattle.std.proofs.lemmas.Option.{get_or_from_slice_get, slice_get-get_or, slice_get_within}
+use Rattle.std.proofs.lemmas.Grind.{common_steps}
+use Rattle.std.specs.Prelude.{slice_get}
 use Rattle.label_space.specs.Rules.{Rules, Fits, Extends}
 use Rattle.label_space.specs.Laws.{IsLawful}
 use Rattle.label_core.specs.declared.table.Place.{Place}
@@ -8,7 +10,8 @@ use Rattle.label_core.specs.declared.table.Origin.{Origin}
 use Rattle.label_core.specs.declared.table.Fate.{Fate}
 use Rattle.label_core.specs.declared.table.Fate.TheVariants.{Void, At}
 use Rattle.label_core.specs.declared.table.Entry.{Entry}
-use Rattle.label_core.specs.Tables.{Cells, place, entries_of, entry_count}
+use Rattle.label_core.specs.Tables.{Cells, StandsAt, place, entries_of, entry_count}
+use Rattle.label_core.proofs.Lookup.{cell_there}
 use Rattle.label_core.specs.Walks.{origin}
 use Rattle.label_core.specs.Puts.{fresh, put, CoversAt, CoversNot, EachFits}
 use Rattle.plain_table.specs.Fillings.{Extending, AtWall}
@@ -17,6 +20,25 @@ use Rattle.plain_table.proofs.Stepping.{each_fits, few_in_cell, notes, covered_i
 -- an item that stands within is read with any default
 pub read_is : {A : Type 0} (xs : List A) (i : ℕ) (x d : A) → i < length xs → x ≡ get_or xs i x → x ≡ get_or xs i d
 read_is xs i x d h e = e ∙ sym (get_or_from_slice_get xs i (get_or xs i x) d (slice_get-get_or xs i x h))
+
+-- what was written through a slice of the whole list is the list
+pub written_whole : {A : Type 0} (new old : List A) (n : ℕ) → length new ≡ length old → n ≡ length old → take n (new ++ drop (length new) old) ≡ new
+written_whole new old n same all = grind (arith, common_steps)
+
+module _ {L : Type 0} (t : Cells L) (p : Place) (e : Entry L) (stands : StandsAt t p e) (es : List (Entry L)) (es_is : es ≡ get_or t p.cell es) where
+  -- the cell of an entry that stands is read
+  pub cell_read : es ≡ entries_of t p.cell
+  cell_read = read_is t p.cell es [] (cell_there t p.cell p.index e stands) es_is
+
+  pub stands_read : slice_get es p.index ≡ Some e
+  stands_read = subst (λ z. slice_get z p.index ≡ Some e) (sym cell_read) stands
+
+  pub index_within : p.index < length es
+  index_within = slice_get_within es p.index e stands_read
+
+  -- the entry that stands is read
+  pub entry_read : (x : Entry L) → ((d : Entry L) → get_or es p.index d ≡ x) → e ≡ x
+  entry_read x reads = sym (get_or_from_slice_get es p.index e x stands_read) ∙ reads x
 
 module _ {L : Type 0} (r : Rules L) (law : IsLawful r) (limit : ℕ) (t : Cells L) (order : List Place) (next : ℕ) (p : Place) (l : L) (fates : List Fate)
     (now : Extending r limit t order next p l fates) (k : ℕ) (next_choice : length fates ≡ k) (within : k < r.degree l) (m : L) (made : Some m ≡ r.extend l k) where

@@ -1,4 +1,4 @@
-ghost use Rattle.std.specs.Prelude.{◌≡◌, ◌<◌, ◌+◌, ◌^◌, ◌++◌, ◌∷◌, [], ℕ, IfOk, OnOk, MatchOption, length};
+ghost use Rattle.std.specs.Prelude.{◌≡◌, ◌<◌, ◌+◌, ◌^◌, ◌++◌, ◌∷◌, [], ℕ, IfOk, OnOk, MatchOption, length, slice_get, slice_set};
 ghost use Rattle.label_space.specs.Rules.{Fits};
 ghost use Rattle.label_core.specs.declared.table.Entry.{Entry};
 ghost use Rattle.label_core.specs.Tables.{StandsAt, entries_of};
@@ -161,6 +161,15 @@ fn finish<L: Drop>(alloc: Global, place: Place, fates: List<Fate>, cells: &mut [
 {
     let slot = &mut cells[place.cell as usize];
     let mut entries = mem::replace(slot, List::new(alloc)).into_vec();
-    entries[place.index as usize].turn = Turn::Done(fates);
+    end_turn(entries.as_mut_slice(), place.index, fates);
     *slot = List::from_vec(entries);
+}
+
+/// The entry at an index of a cell is done, with these fates.
+fn end_turn<L: Drop>(entries: &mut [Entry<L>], index: u32, fates: List<Fate>)
+    requires { index < length entries.old }
+    ensures { (e : Entry L) → slice_get entries.old index ≡ Some e
+        → entries.new ≡ slice_set entries.old index (with_turn (Turn.Done fates) e) }
+{
+    entries[index as usize].turn = Turn::Done(fates);
 }
