@@ -8,9 +8,9 @@ use Rattle.label_space.specs.Laws.{IsLawful}
 use Rattle.label_core.specs.declared.table.Place.{Place}
 use Rattle.label_core.specs.declared.table.Origin.{Origin}
 use Rattle.label_core.specs.declared.table.Fate.{Fate}
-use Rattle.label_core.specs.declared.table.Fate.TheVariants.{Void, At}
+use Rattle.label_core.specs.declared.table.Fate.TheVariants.{At}
 use Rattle.label_core.specs.declared.table.Entry.{Entry}
-use Rattle.label_core.specs.Tables.{Cells, StandsAt, place, entries_of, entry_count}
+use Rattle.label_core.specs.Tables.{Cells, StandsAt, place, entries_of}
 use Rattle.label_core.proofs.Lookup.{cell_there}
 use Rattle.label_core.specs.Walks.{origin}
 use Rattle.label_core.specs.Puts.{fresh, put, CoversAt, CoversNot, EachFits}
@@ -93,5 +93,5 @@ module _ {L : Type 0} (r : Rules L) (law : IsLawful r) (limit : ℕ) (t : Cells 
             let now_comes = comes r limit t order next p l fates now law m x uncovered_here room in
             subst (λ z. Extending r limit u longer n p l z) (sym (items_is ∙ ap (λ z. fates ++ At z ∷ []) spot_is))
             (subst (λ z. Extending r limit u longer z p l (fates ++ At (place (r.cell m) (length (entries_of t (r.cell m)))) ∷ [])) (sym n_is)
-              (subst (λ z. Extending r limit u z next p l (fates ++ At (place (r.cell m) (length (entries_of t (r.cell m)))) ∷ [])) (sym (longer_is ∙ ap (λ z. order ++ z ∷ []) spot_is))
-                (subst (λ z. Extending r limit z (order ++ place (r.cell m) (length (entries_of t (r.cell m))) ∷ []) next p l (fates ++ At (place (r.cell m) (length (entries_of t (r.cell m)))) ∷ [])) (sym table_is) now_comes)))
+            (subst (λ z. Extending r limit u z next p l (fates ++ At (place (r.cell m) (length (entries_of t (r.cell m)))) ∷ [])) (sym (longer_is ∙ ap (λ z. order ++ z ∷ []) spot_is))
+            (subst (λ z. Extending r limit z (order ++ place (r.cell m) (length (entries_of t (r.cell m))) ∷ []) next p l (fates ++ At (place (r.cell m) (length (entries_of t (r.cell m)))) ∷ [])) (sym table_is) now_comes)))

@@ -1,18 +1,16 @@
 -- Each step of filling keeps what holds while a table is being filled.
-use Rattle.std.proofs.Common.{◌≡◌, ◌≢◌, ◌⊎◌, ℕ, ◌+◌, ◌<◌, ◌≤◌, false, Some, None, List, [], ◌∷◌, ◌++◌, length, set, map, length-append, refl, sym, ap, ◌∙◌, subst, inl, inr, ⊎_elim, arith}
+use Rattle.std.proofs.Common.{◌≡◌, ◌≢◌, ◌⊎◌, ℕ, ◌+◌, ◌<◌, ◌≤◌, Some, List, [], ◌∷◌, ◌++◌, length, set, map, length-append, refl, sym, ap, ◌∙◌, subst, inl, inr, ⊎_elim, arith}
 use Rattle.std.proofs.lemmas.List.{length-map, length-set}
 use Rattle.std.proofs.lemmas.List.Sums.{sum_by-set}
-
 use Rattle.std.proofs.lemmas.Option.{slice_get_within}
-use Rattle.std.specs.Prelude.{slice_get, sum_by}
-use Rattle.label_space.specs.Rules.{Rules, Fits, Dominates, Extends}
+use Rattle.std.specs.Prelude.{slice_get}
+use Rattle.label_space.specs.Rules.{Rules, Fits, Extends}
 use Rattle.label_space.specs.Laws.{IsLawful}
 use Rattle.label_core.specs.declared.table.Place.{Place}
 use Rattle.label_core.specs.declared.table.Origin.{Origin}
 use Rattle.label_core.specs.declared.table.Fate.{Fate}
-use Rattle.label_core.specs.declared.table.Fate.TheVariants.{Void, At}
-use Rattle.label_core.specs.declared.table.Turn.{Turn}
-use Rattle.label_core.specs.declared.table.Turn.TheVariants.{Fresh, Claimed, Done}
+use Rattle.label_core.specs.declared.table.Fate.TheVariants.{At}
+use Rattle.label_core.specs.declared.table.Turn.TheVariants.{Fresh, Done}
 use Rattle.label_core.specs.declared.table.Entry.{Entry}
 use Rattle.label_core.specs.Tables.{Cells, place, entries_of, entry_count, StandsAt, IsKept}
 use Rattle.label_core.specs.Walks.{origin}
@@ -20,10 +18,9 @@ use Rattle.label_core.specs.Points.{IsSound}
 use Rattle.label_core.specs.Puts.{fresh, with_turn, set_at, beside, put_into, put, CoversAt, CoversNot, EachFits, MayPut}
 use Rattle.label_core.specs.Fates.{IsDone, HasFates, IsLegal, AreLegal}
 use Rattle.label_core.proofs.Lookup.{some_same, at_front, front_or_end, none_at_end, cell_there, same_or_apart, same_entry, set_here, set_back}
-use Rattle.label_core.proofs.Stays.{Stays, legal_still, all_legal_still}
+use Rattle.label_core.proofs.Stays.{Stays, all_legal_still}
 use Rattle.label_core.proofs.Turning.{turn_back, turn_keeps}
 use Rattle.label_core.proofs.Putting.{Became, still_kept, label_stays, origin_stays, put_forth, put_back, new_stands, cell_is_there, put_stays, put_keeps}
-use Rattle.plain_table.specs.Outcomes.{HasOneMore}
 use Rattle.plain_table.specs.Fillings.{Waits, IsChildless, IsInTurn, IsToExtend, IsNotToExtend, IsSteady, Fills, Extending, AtWall}
 
 -- a place that is not the one whose turn it is waits still
@@ -56,12 +53,16 @@ module _ {L : Type 0} (r : Rules L) where
       reached = let h = slice_get_within order next p turn in omega arith;
       turns = λ q x sx. ⊎_elim
           (λ done. inl done)
-          (λ (w : (x.turn ≡ Fresh) × IsChildless t q × (IsKept x → Waits order next q)). inr (w.0, w.1, λ kept. ⊎_elim
-              (λ same. let is : x ≡ e = same_entry t p x e (subst (λ z. StandsAt t z x) same sx) s in
+          (λ (w : (x.turn ≡ Fresh) × IsChildless t q × (IsKept x → Waits order next q)). inr (
+            w.0,
+            w.1,
+            λ kept. ⊎_elim
+                (λ same. let is : x ≡ e = same_entry t p x e (subst (λ z. StandsAt t z x) same sx) s in
                 absurd (idle (subst (λ (z : Entry L). IsKept z) is kept) (sym (ap (λ (z : Entry L). z.turn) is) ∙ w.0)))
-              (λ apart. waits_on order next p q turn apart (w.2 kept))
-              (same_or_apart q p)))
-          (fills.turns q x sx)
+                (λ apart. waits_on order next p q turn apart (w.2 kept))
+                (same_or_apart q p),
+          ))
+          (fills.turns q x sx);
     }
 
     -- the turn of a kept and fresh entry begins
@@ -78,7 +79,7 @@ module _ {L : Type 0} (r : Rules L) where
           (λ (done : IsDone e). let h = done.1 in let k = to.1 in (cc))
           (λ (w : (e.turn ≡ Fresh) × IsChildless t p × (IsKept e → Waits order next p)). w.1 q d o sd from is)
           (fills.turns p e s));
-      legal = λ k f at. absurd (cc)
+      legal = λ k f at. absurd (cc);
     }
 
     module _ (p : Place) (l : L) (fates : List Fate) (now : Extending r limit t order next p l fates) where
@@ -90,7 +91,7 @@ module _ {L : Type 0} (r : Rules L) where
         here = now.here;
         others = now.others;
         children = λ q d o s from is. let h = now.children q d o s from is in let n = length-append fates (f ∷ []) in omega arith;
-        legal = legal_push t l fates f now.legal one
+        legal = legal_push t l fates f now.legal one;
       }
 
       pub covered_is_legal : (m : L) (i : ℕ) → Extends r l (length fates) m → CoversAt r (entries_of t (r.cell m)) m i → IsLegal r t l (length fates) (At (place (r.cell m) i))
@@ -119,7 +120,7 @@ module _ {L : Type 0} (r : Rules L) where
             sound = now.steady.sound;
             fates = now.steady.fates;
             made = let n = now.steady.counted in let h = now.steady.few in omega arith;
-            one_more = (p, parent.0, length fates, m, parent.1, parent.2, uncovered, origin_new)
+            one_more = (p, parent.0, length fates, m, parent.1, parent.2, uncovered, origin_new);
           }
 
           module _ (uncovered : CoversNot r (entries_of t (r.cell m)) m) where
@@ -142,7 +143,7 @@ module _ {L : Type 0} (r : Rules L) where
               origin_is = refl;
               origin_new = origin_new;
               parent = parent;
-              uncovered = uncovered
+              uncovered = uncovered;
             }
 
             back : (q : Place) (e : Entry L) → StandsAt after q e → ((q ≡ spot) × (e ≡ new)) ⊎ ((d : Entry L) × StandsAt t q d × Became r t c new q d e)
@@ -189,7 +190,7 @@ module _ {L : Type 0} (r : Rules L) where
               placed = λ i q at. ⊎_elim
                   (λ old. let s = now.steady.placed i q old in let f = forth q s.0 s.1 in (f.0, f.1))
                   (λ (last : (i ≡ length order) × (spot ≡ q)). (new, subst (λ z. StandsAt after z new) last.1 stands))
-                  (front_or_end order spot q i at)
+                  (front_or_end order spot q i at);
             }
 
             -- no entry comes from the new one
@@ -198,6 +199,7 @@ module _ {L : Type 0} (r : Rules L) where
               where
                 from_there : (u : Place) (v : Entry L) → StandsAt t u v → u ≡ spot → ⊥
                 from_there u v sv same = nothing_there v (subst (λ z. StandsAt t z v) same sv)
+
                 one : ((q ≡ spot) × (d ≡ new)) ⊎ ((e : Entry L) × StandsAt t q e × Became r t c new q e d) → ⊥
                 one (inl a) =
                     let h : Some (origin p (length fates)) ≡ Some o = sym (ap (λ (z : Entry L). z.origin) a.1) ∙ from in
@@ -210,9 +212,12 @@ module _ {L : Type 0} (r : Rules L) where
             -- another entry than the parent is in turn still
             still_in_turn : (q : Place) (d e : Entry L) → q ≢ p → Became r t c new q d e → IsInTurn t order next q d → IsInTurn after (order ++ spot ∷ []) next q e
             still_in_turn q d e apart was (inl done) = inl (done.0, turn_stays q d e was ∙ done.1)
-            still_in_turn q d e apart was (inr w) = inr (turn_stays q d e was ∙ w.0, childless,
-                λ kept. let k = still_kept r t c new q d e was kept in
-                waits_longer order next spot q (w.2 (subst (λ (z : Entry L). IsKept z) (sym k.0) kept)))
+            still_in_turn q d e apart was (inr w) = inr (
+              turn_stays q d e was ∙ w.0,
+              childless,
+              λ kept. let k = still_kept r t c new q d e was kept in
+                  waits_longer order next spot q (w.2 (subst (λ (z : Entry L). IsKept z) (sym k.0) kept)),
+            )
               where
                 childless : IsChildless after q
                 childless u v o s from is = one (back u v s)
@@ -233,21 +238,26 @@ module _ {L : Type 0} (r : Rules L) where
               others = others;
               children = children;
               legal = legal_push after l fates (At spot) (all_legal_still r t after stays l fates now.legal)
-                  (m, x, new, stands, law.reflexive m longer_fits)
+                  (m, x, new, stands, law.reflexive m longer_fits);
             }
               where
                 others : (q : Place) (e : Entry L) → StandsAt after q e → q ≢ p → IsInTurn after (order ++ spot ∷ []) next q e
                 others q e s apart = one (back q e s)
                   where
                     one : ((q ≡ spot) × (e ≡ new)) ⊎ ((d : Entry L) × StandsAt t q d × Became r t c new q d e) → IsInTurn after (order ++ spot ∷ []) next q e
-                    one (inl a) = inr (ap (λ (z : Entry L). z.turn) a.1, subst (λ z. IsChildless after z) (sym a.0) new_childless,
-                        λ _. (length order, now.reached, subst (λ z. slice_get (order ++ spot ∷ []) (length order) ≡ Some z) (sym a.0) (Rattle.label_core.proofs.Lookup.at_end order spot)))
+                    one (inl a) = inr (
+                      ap (λ (z : Entry L). z.turn) a.1,
+                      subst (λ z. IsChildless after z) (sym a.0) new_childless,
+                      λ _. (length order, now.reached, subst (λ z. slice_get (order ++ spot ∷ []) (length order) ≡ Some z) (sym a.0) (Rattle.label_core.proofs.Lookup.at_end order spot)),
+                    )
                     one (inr (d, sd, was)) = still_in_turn q d e apart was (now.others q d sd apart)
+
                 children : (q : Place) (d : Entry L) (o : Origin) → StandsAt after q d → d.origin ≡ Some o → o.parent ≡ p → o.arc < length (fates ++ At spot ∷ [])
                 children q d o s from is = one (back q d s)
                   where
                     longer : length (fates ++ At spot ∷ []) ≡ length fates + 1
                     longer = length-append fates (At spot ∷ [])
+
                     one : ((q ≡ spot) × (d ≡ new)) ⊎ ((e : Entry L) × StandsAt t q e × Became r t c new q e d) → o.arc < length (fates ++ At spot ∷ [])
                     one (inl a) =
                         let h : Some (origin p (length fates)) ≡ Some o = sym (ap (λ (z : Entry L). z.origin) a.1) ∙ from in
@@ -272,12 +282,12 @@ module _ {L : Type 0} (r : Rules L) where
         fated : HasFates r ended
         fated q y fs s done = ⊎_elim
             (λ (a : (q ≡ p) × (y ≡ with_turn (Done fates) e)).
-              let is = same_fates fates fs (sym (ap (λ (z : Entry L). z.turn) a.1) ∙ done) in
-              subst (λ (z : Entry L). (length fs ≡ r.degree z.label) × AreLegal r ended z.label fs) (sym a.1)
-              (subst (λ z. (length fs ≡ r.degree z) × AreLegal r ended z fs) (sym e_label)
-                (subst (λ z. (length z ≡ r.degree l) × AreLegal r ended l z) is (all, all_legal_still r t ended to l fates now.legal))))
+            let is = same_fates fates fs (sym (ap (λ (z : Entry L). z.turn) a.1) ∙ done) in
+            subst (λ (z : Entry L). (length fs ≡ r.degree z.label) × AreLegal r ended z.label fs) (sym a.1)
+            (subst (λ z. (length fs ≡ r.degree z) × AreLegal r ended z fs) (sym e_label)
+            (subst (λ z. (length z ≡ r.degree l) × AreLegal r ended l z) is (all, all_legal_still r t ended to l fates now.legal))))
             (λ (a : (q ≢ p) × StandsAt t q y).
-              let f = now.steady.fates q y fs a.1 done in (f.0, all_legal_still r t ended to y.label fs f.1))
+            let f = now.steady.fates q y fs a.1 done in (f.0, all_legal_still r t ended to y.label fs f.1))
             (set_back t p (with_turn (Done fates) e) e stands q y s)
 
         as_many : entry_count ended ≡ entry_count t
@@ -298,14 +308,14 @@ module _ {L : Type 0} (r : Rules L) where
             fates = fated;
             counted = as_many ∙ now.steady.counted;
             few = now.steady.few;
-            placed = λ i q at. let s = now.steady.placed i q at in let f = to q s.0 s.1 in (f.0, f.1)
+            placed = λ i q at. let s = now.steady.placed i q at in let f = to q s.0 s.1 in (f.0, f.1);
           };
           reached = now.reached;
           turns = λ q y s. ⊎_elim
               (λ (a : (q ≡ p) × (y ≡ with_turn (Done fates) e)). inl (fates, ap (λ (z : Entry L). z.turn) a.1))
               (λ (a : (q ≢ p) × StandsAt t q y). ⊎_elim
-                  (λ done. inl done)
-                  (λ (w : (y.turn ≡ Fresh) × IsChildless t q × (IsKept y → Waits order next q)). inr (w.0, childless_still q w.1, w.2))
-                  (now.others q y a.1 a.0))
-              (set_back t p (with_turn (Done fates) e) e stands q y s)
+              (λ done. inl done)
+              (λ (w : (y.turn ≡ Fresh) × IsChildless t q × (IsKept y → Waits order next q)). inr (w.0, childless_still q w.1, w.2))
+              (now.others q y a.1 a.0))
+              (set_back t p (with_turn (Done fates) e) e stands q y s);
         }

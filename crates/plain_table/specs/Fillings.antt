@@ -1,10 +1,10 @@
 -- What holds while a table is being filled.
-use Rattle.std.specs.Prelude.{◌≡◌, ◌≢◌, ℕ, ◌+◌, ◌<◌, ◌≤◌, ◌⊎◌, Option, Some, None, List, length, slice_get}
-use Rattle.label_space.specs.Rules.{Rules, Extends}
+use Rattle.std.specs.Prelude.{◌≡◌, ◌≢◌, ℕ, ◌<◌, ◌≤◌, ◌⊎◌, Some, List, length, slice_get}
+use Rattle.label_space.specs.Rules.{Rules}
 use Rattle.label_core.specs.declared.table.Place.{Place}
 use Rattle.label_core.specs.declared.table.Origin.{Origin}
 use Rattle.label_core.specs.declared.table.Fate.{Fate}
-use Rattle.label_core.specs.declared.table.Turn.TheVariants.{Fresh, Claimed, Done}
+use Rattle.label_core.specs.declared.table.Turn.TheVariants.{Fresh}
 use Rattle.label_core.specs.declared.table.Entry.{Entry}
 use Rattle.label_core.specs.Tables.{Cells, StandsAt, IsKept, entry_count}
 use Rattle.label_core.specs.Points.{IsSound}

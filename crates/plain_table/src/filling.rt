@@ -26,11 +26,7 @@ pub enum Step {
 }
 
 /// The table with the root alone.
-pub fn opened<S: Space>(
-    alloc: Global,
-    space: &S,
-    limit: u32,
-) -> Result<Filling<S::Label>, NoMemory>
+pub fn opened<S: Space>(alloc: Global, space: &S, limit: u32) -> Result<Filling<S::Label>, NoMemory>
     requires { 1 ≤ limit }
     ensures { IfOk result (IsFilling (S.rules space.now) limit) }
 {

@@ -72,7 +72,12 @@ fn extend_over_all<S: Space>(
             Step::Wall => return Ok(Step::Wall),
         }
     }
-    finish(alloc, parent, List::from_vec(fates), filling.cells.as_mut_slice());
+    finish(
+        alloc,
+        parent,
+        List::from_vec(fates),
+        filling.cells.as_mut_slice(),
+    );
     Ok(Step::Went)
 }
 

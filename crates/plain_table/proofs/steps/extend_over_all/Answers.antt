@@ -1,5 +1,4 @@
-use Rattle.std.proofs.Common.{◌≡◌, List, length, sym, ap, ◌∙◌, subst, arith}
-use Rattle.label_core.specs.declared.table.Entry.{Entry}
+use Rattle.std.proofs.Common.{◌≡◌, length, sym, ap, ◌∙◌, subst, arith}
 use Rattle.label_core.specs.declared.table.Turn.TheVariants.{Done}
 use Rattle.label_core.specs.Tables.{Cells, StandsAt}
 use Rattle.label_core.specs.Puts.{set_at, with_turn}
@@ -25,9 +24,9 @@ returns-clause-went g c = λ _.
     let len = c.as_mut_slice.ensures.len in
     let whole = written_whole c.finish.new.cells f.cells.items f.cells.len (omega arith) (omega arith) in
     let is = whole ∙ c.finish.ensures here.0 s
-        ∙ ap (λ t. set_at t c.args.parent (with_turn (Done c.from_vec.result) here.0)) c.as_mut_slice.ensures.value
-        ∙ ap (λ fates. set_at f.cells.items c.args.parent (with_turn (Done fates) here.0)) c.from_vec.ensures in
+    ∙ ap (λ t. set_at t c.args.parent (with_turn (Done c.from_vec.result) here.0)) c.as_mut_slice.ensures.value
+    ∙ ap (λ fates. set_at f.cells.items c.args.parent (with_turn (Done fates) here.0)) c.from_vec.ensures in
     let all : length c.loop-arc.fates.items ≡ r.degree c.args.label
-        = let n = c.loop-arc.invariant.noted in let d = c.degree-arc-end.ensures in let h = c.loop-arc-test.false in let b = c.loop-arc.auto.arc-end in omega arith in
+    = let n = c.loop-arc.invariant.noted in let d = c.degree-arc-end.ensures in let h = c.loop-arc-test.false in let b = c.loop-arc.auto.arc-end in omega arith in
     subst (λ (t : Cells g.row.S-Label.Denot). Fills r c.args.limit t f.order.items f.next) (sym is)
     (finishes r c.args.limit f.cells.items f.order.items f.next c.args.parent c.args.label c.loop-arc.fates.items now here.0 here.1 all)

@@ -6,5 +6,5 @@ abbrev pub invariant-loop-arc : goal.invariant-loop-arc
 invariant-loop-arc g l = record {
   extending : IsExtending (g.S.Space.rules l.space) l.limit l.parent l.label l.fates.items l.filling;
   noted : length l.fates.items ≡ l.arc;
-  next : l.filling.next ≡ l.initial.filling.next
+  next : l.filling.next ≡ l.initial.filling.next;
 }

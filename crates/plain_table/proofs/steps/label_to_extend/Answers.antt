@@ -1,4 +1,4 @@
-use Rattle.std.proofs.Common.{◌≡◌, ◌<◌, ℕ, List, Bool, true, false, Option, Some, None, sym, ap, ◌∙◌, refl, subst, ⊎_elim, arith}
+use Rattle.std.proofs.Common.{◌≡◌, ℕ, List, true, false, Option, Some, None, sym, ap, ◌∙◌, refl, ⊎_elim}
 use Rattle.std.specs.Prelude.{is_some}
 use Rattle.label_core.specs.declared.table.Entry.{Entry}
 use Rattle.label_core.specs.declared.table.Fate.{Fate}
@@ -31,9 +31,11 @@ returns-then-is_some g c = λ e s kept turn.
 
 pub returns-in-Fresh : goal.returns-in-Fresh
 returns-in-Fresh g c = λ e s.
-    let is = entry_read c.args.cells.now c.args.place e s c.index-cells-place.result c.index-cells-place.is c.at-entry.result.now c.at-entry.ensures in
-    (ap (λ (z : Entry g.row.L.Denot). z.label) is, ap (λ (z : Entry g.row.L.Denot). z.turn) is ∙ c.in-Fresh.is,
-        ap (λ (z : Entry g.row.L.Denot). z.gone) is ∙ none_of c.at-entry.result.now.gone (sym c.if-is_some.ensures))
+    let is = entry_read c.args.cells.now c.args.place e s c.index-cells-place.result c.index-cells-place.is c.at-entry.result.now c.at-entry.ensures in (
+      ap (λ (z : Entry g.row.L.Denot). z.label) is,
+      ap (λ (z : Entry g.row.L.Denot). z.turn) is ∙ c.in-Fresh.is,
+      ap (λ (z : Entry g.row.L.Denot). z.gone) is ∙ none_of c.at-entry.result.now.gone (sym c.if-is_some.ensures),
+    )
 
 pub returns-in-Claimed : goal.returns-in-Claimed
 returns-in-Claimed g c = λ e s kept turn.
