@@ -10,7 +10,8 @@ module _ {L : Type 0} (r : Rules L) where
 
   -- a label of the set dominates the root, and one dominates each extension of each of its labels
   abbrev pub IsClosed : (L → Type 0) → Type 0
-  IsClosed Has = Covers Has r.root × ((l : L) (k : ℕ) (m : L) → Has l → Extends r l k m → Covers Has m)
+  IsClosed Has = Covers Has r.root
+      × ((l : L) (k : ℕ) (m : L) → Has l → Extends r l k m → Covers Has m)
 
   -- for each prefix of the choices a label of the set dominates the prefix's label
   abbrev pub IsRepresented : (L → Type 0) → List ℕ → Type 0
@@ -18,4 +19,5 @@ module _ {L : Type 0} (r : Rules L) where
 
   -- the set represents every list of choices from the root
   abbrev pub RepresentsAll : (L → Type 0) → Type 0
-  RepresentsAll Has = (choices : List ℕ) (m : L) → Reaches r r.root choices m → IsRepresented Has choices
+  RepresentsAll Has = (choices : List ℕ) (m : L) → Reaches r r.root choices m
+      → IsRepresented Has choices

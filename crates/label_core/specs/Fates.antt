@@ -30,5 +30,5 @@ module _ {L : Type 0} where
 
     -- each entry that is done has one legal fate for each of its choices
     abbrev pub HasFates : Cells L → Type 0
-    HasFates t = (p : Place) (e : Entry L) (fates : List Fate) → StandsAt t p e → e.turn ≡ Done fates
-        → (length fates ≡ r.degree e.label) × AreLegal t e.label fates
+    HasFates t = (p : Place) (e : Entry L) (fates : List Fate) → StandsAt t p e
+        → e.turn ≡ Done fates → (length fates ≡ r.degree e.label) × AreLegal t e.label fates

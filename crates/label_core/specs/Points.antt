@@ -16,7 +16,8 @@ module _ {L : Type 0} where
   module _ (r : Rules L) where
     -- The root stands, and each other entry's label is its parent's over the origin's arc
     pub record HasLabels (t : Cells L) : Type 0 where
-      pub root : (p : Place) × (e : Entry L) × StandsAt t p e × (e.origin ≡ None) × (e.label ≡ r.root)
+      pub root : (p : Place) × (e : Entry L) × StandsAt t p e × (e.origin ≡ None)
+          × (e.label ≡ r.root)
       pub extended : (p : Place) (e : Entry L) (o : Origin) → StandsAt t p e → e.origin ≡ Some o
           → (d : Entry L) × StandsAt t o.parent d × Extends r d.label o.arc e.label
 
@@ -36,7 +37,8 @@ module _ {L : Type 0} where
     -- A table of the space: each label in its cell, with its origin and its link
     pub record IsSound (t : Cells L) : Type 0 where
       pub cell_each : length t ≡ r.cells
-      pub at_home : (p : Place) (e : Entry L) → StandsAt t p e → Fits r e.label × (r.cell e.label ≡ p.cell)
+      pub at_home : (p : Place) (e : Entry L) → StandsAt t p e
+          → Fits r e.label × (r.cell e.label ≡ p.cell)
       pub origins : HasOrigins t
       pub labels : HasLabels t
       pub links : HasLinks t

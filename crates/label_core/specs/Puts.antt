@@ -1,4 +1,4 @@
--- Two changes of a table: an entry is put, with the marks of what it takes away, or one is marked gone.
+-- Changes of a table: an entry is put, with the marks of what it takes away, or one is marked.
 use Rattle.std.specs.Prelude.{◌≡◌, ◌≢◌, ℕ, Bool, true, false, cond, ◌&&◌, Option, Some, None, List, [], ◌∷◌, ◌++◌, length, map, replicate, slice_get, slice_set}
 use Rattle.label_space.specs.Rules.{Rules, Fits, Dominates, Extends}
 use Rattle.label_core.specs.declared.table.Place.{Place}

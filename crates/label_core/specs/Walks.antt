@@ -26,9 +26,10 @@ module _ {L : Type 0} where
   abbrev pub IsWalkOf : Cells L → Place → List ℕ → Type 0
   IsWalkOf t p arcs = LeadsBack t p (reverse arcs)
 
-  -- The origins of each entry lead back, and no two are the same: one entry alone, the root, has none
+  -- The origins of each entry lead back, and no two are the same: the root alone has none
   pub record HasOrigins (t : Cells L) : Type 0 where
-    pub lead_back : (p : Place) (e : Entry L) → StandsAt t p e → (arcs : List ℕ) × LeadsBack t p arcs
+    pub lead_back : (p : Place) (e : Entry L) → StandsAt t p e
+        → (arcs : List ℕ) × LeadsBack t p arcs
     pub differ : (p q : Place) (e d : Entry L) → StandsAt t p e → StandsAt t q d
         → e.origin ≡ d.origin → p ≡ q
 

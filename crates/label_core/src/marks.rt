@@ -7,7 +7,7 @@ use crate::table::{Entry, Place};
 use label_space::Space;
 use path_graph::{List, NoMemory};
 
-/// The index of the first kept entry of a cell that dominates a label.
+/// The index of a kept entry of a cell that dominates a label.
 ///
 /// The time grows as the entries of the cell.
 pub fn kept_dominator<S: Space>(
@@ -33,7 +33,8 @@ pub fn kept_dominator<S: Space>(
 fn covers<S: Space>(space: &S, entry: &Entry<S::Label>, label: &S::Label) -> bool
     requires entry { Fits (S.rules space.now) entry.now.label }
     requires label { Fits (S.rules space.now) label.now }
-    ensures { IsTrue result ↔ (IsKept entry.now × Dominates (S.rules space.now) entry.now.label label.now) }
+    ensures { IsTrue result
+        ↔ (IsKept entry.now × Dominates (S.rules space.now) entry.now.label label.now) }
 {
     entry.gone.is_none() && space.dominates(&entry.label, label)
 }

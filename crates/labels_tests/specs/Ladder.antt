@@ -1,5 +1,5 @@
--- The numbers 0 to 8 as labels: choices lead down by 3, 5 or 7, and a lesser number dominates a greater,
--- across three cells: the even ones, the odd ones, and 0.
+-- The numbers 0 to 8 as labels: choices lead down by 3, 5 or 7, and a lesser number dominates a
+-- greater, across three cells: the even ones, the odd ones, and 0.
 use Rattle.std.specs.Prelude.{ℕ, ◌+◌, ◌-◌, ◌*◌, ◌%◌, pos, Some, ◌==◌, nat_le, if◌then◌else◌}
 use Rattle.label_space.specs.Rules.{Rules}
 

@@ -14,7 +14,7 @@ use plain_table::{Filled, fill};
 use std::alloc::Global;
 use std::test::Fail;
 
-/// The cell, the degree and the level of a label, and whether it is the root; none of another value.
+/// The cell, the degree and the level of a label, and whether it is the root.
 fn told<S: Space>(space: &S, label: &S::Label) -> Option<(u32, u32, i64, bool)> {
     if !space.fits(label) {
         return None;

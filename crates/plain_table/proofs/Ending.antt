@@ -89,7 +89,7 @@ module _ {L : Type 0} (r : Rules L) (law : IsLawful r) (limit : ℕ) where
     walks = sound_walks_differ r t wall.sound;
     fates = wall.fates;
     closed = tt;
-    wall = record { made = wall.made; one_more = wall.one_more };
+    wall = wall.full;
   })
 
   -- the table that is opened in the code

@@ -119,8 +119,10 @@ module _ {L : Type 0} (r : Rules L) where
           meets_wall uncovered full = record {
             sound = now.steady.sound;
             fates = now.steady.fates;
-            made = let n = now.steady.counted in let h = now.steady.few in omega arith;
-            one_more = (p, parent.0, length fates, m, parent.1, parent.2, uncovered, origin_new);
+            full = record {
+              made = let n = now.steady.counted in let h = now.steady.few in omega arith;
+              one_more = (p, parent.0, length fates, m, parent.1, parent.2, uncovered, origin_new);
+            };
           }
 
           module _ (uncovered : CoversNot r (entries_of t (r.cell m)) m) where

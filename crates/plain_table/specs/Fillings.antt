@@ -10,7 +10,7 @@ use Rattle.label_core.specs.Tables.{Cells, StandsAt, IsKept, entry_count}
 use Rattle.label_core.specs.Points.{IsSound}
 use Rattle.label_core.specs.Fates.{IsDone, HasFates, AreLegal}
 use Rattle.plain_table.specs.declared.filling.Filling.{Filling}
-use Rattle.plain_table.specs.Outcomes.{HasOneMore}
+use Rattle.plain_table.specs.Outcomes.{IsFull}
 
 -- the place has its turn at this index of the order or later
 abbrev pub Waits : List Place → ℕ → Place → Type 0
@@ -19,7 +19,8 @@ Waits order next p = (i : ℕ) × (next ≤ i) × (slice_get order i ≡ Some p)
 module _ {L : Type 0} where
   -- the entry at p is no parent
   abbrev pub IsChildless : Cells L → Place → Type 0
-  IsChildless t p = (q : Place) (d : Entry L) (o : Origin) → StandsAt t q d → d.origin ≡ Some o → o.parent ≢ p
+  IsChildless t p = (q : Place) (d : Entry L) (o : Origin) → StandsAt t q d → d.origin ≡ Some o
+      → o.parent ≢ p
 
   -- the entry e at p is done, or it is fresh, no parent, and waits for its turn if it is kept
   abbrev pub IsInTurn : Cells L → List Place → ℕ → Place → Entry L → Type 0
@@ -51,7 +52,8 @@ module _ {L : Type 0} where
 
     -- Within the turn of the entry at p, whose label is l: it has these fates so far, and is the
     -- parent over no further choice
-    pub record Extending (t : Cells L) (order : List Place) (next : ℕ) (p : Place) (l : L) (fates : List Fate) : Type 0 where
+    pub record Extending (t : Cells L) (order : List Place) (next : ℕ)
+        (p : Place) (l : L) (fates : List Fate) : Type 0 where
       pub steady : IsSteady t order
       pub reached : next ≤ length order
       pub here : (e : Entry L) × StandsAt t p e × (e.label ≡ l)
@@ -64,8 +66,7 @@ module _ {L : Type 0} where
     pub record AtWall (t : Cells L) : Type 0 where
       pub sound : IsSound r t
       pub fates : HasFates r t
-      pub made : entry_count t ≡ limit
-      pub one_more : HasOneMore r t
+      pub full : IsFull r limit t
 
     -- the table is between two turns
     abbrev pub IsFilling : Filling L → Type 0

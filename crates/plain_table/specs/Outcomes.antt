@@ -36,7 +36,8 @@ module _ {L : Type 0} where
     -- An entry extends to a label that no kept entry of its cell dominates and that is in no entry
     -- by this origin
     abbrev pub HasOneMore : Cells L → Type 0
-    HasOneMore t = (p : Place) × (e : Entry L) × (k : ℕ) × (m : L) × StandsAt t p e × Extends r e.label k m
+    HasOneMore t = (p : Place) × (e : Entry L) × (k : ℕ) × (m : L)
+        × StandsAt t p e × Extends r e.label k m
         × CoversNot r (entries_of t (r.cell m)) m
         × ((q : Place) (d : Entry L) → StandsAt t q d → d.origin ≢ Some (origin p k))
 

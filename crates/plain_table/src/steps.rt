@@ -38,7 +38,8 @@ pub fn work_on_next<S: Space>(
 /// The label of the entry at a place, where the entry is kept and fresh.
 fn label_to_extend<L: Copy>(cells: &[List<Entry<L>>], place: Place) -> Option<L>
     requires { (e : Entry L) × StandsAt cells.now place e }
-    ensures { (e : Entry L) → StandsAt cells.now place e → MatchOption result (IsNotToExtend e) (IsToExtend e) }
+    ensures { (e : Entry L) → StandsAt cells.now place e
+        → MatchOption result (IsNotToExtend e) (IsToExtend e) }
 {
     let entry = cells[place.cell as usize].at(place.index as usize);
     if entry.gone.is_some() {
@@ -92,7 +93,8 @@ fn extend_once<S: Space>(
     fates: &mut Vec<Fate>,
     filling: &mut Filling<S::Label>,
 ) -> Result<Step, NoMemory>
-    requires filling { IsExtending (S.rules space.now) limit origin.parent label fates.old.items filling.old }
+    requires filling { IsExtending (S.rules space.now) limit
+        origin.parent label fates.old.items filling.old }
     requires next_choice { length fates.old.items ≡ origin.arc }
     requires within { origin.arc < (S.rules space.now).degree label }
     ensures went { result ≡ Ok Step.Went
@@ -142,9 +144,11 @@ fn put<S: Space>(
     requires label { Fits (S.rules space.now) new.label }
     requires each { EachFits (S.rules space.now) (entries_of filling.old.cells.items cell) }
     requires few { length (entries_of filling.old.cells.items cell) < 2 ^ 32 }
-    ensures cells { OnOk result (filling.new.cells.items ≡ put_of (S.rules space.now) filling.old.cells.items cell new) }
+    ensures cells { OnOk result
+        (filling.new.cells.items ≡ put_of (S.rules space.now) filling.old.cells.items cell new) }
     ensures order { IfOk result (λ p. filling.new.order.items ≡ filling.old.order.items ++ p ∷ []) }
-    ensures place { IfOk result (λ p. p ≡ place_at cell (length (entries_of filling.old.cells.items cell))) }
+    ensures place { IfOk result
+        (λ p. p ≡ place_at cell (length (entries_of filling.old.cells.items cell))) }
     ensures next { filling.new.next ≡ filling.old.next }
 {
     let slot = &mut filling.cells[cell as usize];
