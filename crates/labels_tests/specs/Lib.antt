@@ -1,0 +1,4 @@
+pub mod Numbers
+pub mod NumbersLawful
+pub mod Ladder
+pub mod LadderLawful

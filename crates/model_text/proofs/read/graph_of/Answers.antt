@@ -1,0 +1,7 @@
+use Rattle.std.proofs.Common.{◌≡◌, refl}
+use Rattle.model_text.proofs.SpellsLemmas.{no_cycle}
+use Rattle.model_text.proofs.read.graph_of.Goals as goal
+
+pub returns-in-Err-FreeCycle-clause-refused : goal.returns-in-Err-FreeCycle-clause-refused
+returns-in-Err-FreeCycle-clause-refused c =
+    (refl, no_cycle c.args.ends c.args.vertices.now c.args.arcs.now _ ?)
