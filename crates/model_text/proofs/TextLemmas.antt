@@ -110,9 +110,9 @@ text_after vars rows g maps few all_vars all_rows few_rows graph one free same e
     let to_vars = both no_parts no_parts a version (flat_map var_line vars) refl (vars_after no_parts vars all_vars (omega (arith, few))) in
     let to_rows = both no_parts a b (version ++ flat_map var_line vars) (flat_map row_line rows) to_vars (rows_after n few a rows all_rows (omega (arith, few_rows))) in
     let to_sets = both no_parts b b (version ++ flat_map var_line vars ++ flat_map row_line rows) (sets_line 0) to_rows refl in
-    let ends = ends_after b g graph.few_vertices graph.ends_fit one in
-    let vertices = both b c d (graph_line g) (flat_map (vertex_line g.ends) g.vertices) ends (vertices_after g.ends one c g.vertices (plain_vertices g.ends g.vertices graph.each_vertex free) (let low = graph.few_vertices in omega (arith, low))) in
-    let arcs = both b d e (graph_line g ++ flat_map (vertex_line g.ends) g.vertices) (flat_map (λ p. arc_line g.ends p.0 p.1) pairs) vertices (arcs_after n (length g.vertices) few graph.few_vertices g.ends one d pairs (plain_arcs n (length g.vertices) g.ends g.arcs maps graph.each_arc each) (let low = graph.few_arcs in omega (arith, low, length-zip g.arcs maps))) in
+    let ends = ends_after b g graph.fits.few_vertices graph.fits.ends_fit one in
+    let vertices = both b c d (graph_line g) (flat_map (vertex_line g.ends) g.vertices) ends (vertices_after g.ends one c g.vertices (plain_vertices g.ends g.vertices graph.fits.each_vertex free) (let low = graph.fits.few_vertices in omega (arith, low))) in
+    let arcs = both b d e (graph_line g ++ flat_map (vertex_line g.ends) g.vertices) (flat_map (λ p. arc_line g.ends p.0 p.1) pairs) vertices (arcs_after n (length g.vertices) few graph.fits.few_vertices g.ends one d pairs (plain_arcs n (length g.vertices) g.ends g.arcs maps graph.fits.each_arc each) (let low = graph.fits.few_arcs in omega (arith, low, length-zip g.arcs maps))) in
     let graphs = both b e e (graph_text g maps) [] arcs refl in
     let to_graphs = both no_parts b e (version ++ flat_map var_line vars ++ flat_map row_line rows ++ sets_line 0) (graph_text g maps ++ []) to_sets graphs in
     let to_end = both no_parts e e (version ++ flat_map var_line vars ++ flat_map row_line rows ++ sets_line 0 ++ (graph_text g maps ++ [])) (line (codes "end") []) to_graphs refl in

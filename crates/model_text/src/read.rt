@@ -10,7 +10,7 @@ use crate::guess::Guess;
 use crate::kind::{Kind, ReadError, TextFault};
 use crate::print::printed;
 use crate::reading::guess_of;
-use path_graph::{Ends, Graph, GraphArc, List, NoMemory, Vertex, parts_fit};
+use path_graph::{Ends, Graph, GraphArc, GraphFault, List, NoMemory, Vertex, parts_fit};
 use route_model::{BuildFault, Model, model_fits};
 use std::alloc::Global;
 
@@ -57,7 +57,8 @@ fn graph_of(
     }
     match Graph::new(alloc, ends, vertices, arcs) {
         Ok(graph) => Ok(graph),
-        Err(_) => Err(ReadError::Memory),
+        Err(GraphFault::FreeCycle(_)) => Err(UNBUILT),
+        Err(GraphFault::Memory) => Err(ReadError::Memory),
     }
 }
 
