@@ -52,7 +52,7 @@ least_kept m old new same walks best =
     }
 
 -- a cost times a number between two lies between the costs at both
-between_ends : (c : ℤ) (l v h : ℕ) → l ≤ v → v ≤ h → (int_min (c *ℤ pos l) (c *ℤ pos h) ≤ℤ (c *ℤ pos v)) × ((c *ℤ pos v) ≤ℤ int_max (c *ℤ pos l) (c *ℤ pos h))
+pub between_ends : (c : ℤ) (l v h : ℕ) → l ≤ v → v ≤ h → (int_min (c *ℤ pos l) (c *ℤ pos h) ≤ℤ (c *ℤ pos v)) × ((c *ℤ pos v) ≤ℤ int_max (c *ℤ pos l) (c *ℤ pos h))
 between_ends (pos c) l v h low high =
     let left : c * l ≤ c * v = mul-le-mul_left c low in
     let right : c * v ≤ c * h = mul-le-mul_left c high in

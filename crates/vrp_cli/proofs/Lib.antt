@@ -1,8 +1,10 @@
 pub mod AheadLemmas
 pub mod PartialLemmas
+pub mod ListedLemmas
 pub mod Results
 pub mod CheckLemmas
 pub mod PlanLemmas
+pub mod LimitLemmas
 pub mod ChoiceLemmas
 pub mod ExchangeLemmas
 pub mod EndingLemmas

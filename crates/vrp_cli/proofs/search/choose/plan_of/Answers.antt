@@ -1,5 +1,7 @@
-use Rattle.std.proofs.Common.{◌≡◌, ◌+◌, List, [], get_or, length, subst, sym, ◌∙◌, refl, arith}
+use Rattle.std.proofs.Common.{◌≡◌, ◌+◌, List, get_or, length, subst, sym, ◌∙◌, refl, arith}
 use Rattle.route_model.specs.declared.plan.Taken.{Taken}
+use Rattle.vrp_cli.specs.declared.search.listed.ListedWalk.{ListedWalk}
+use Rattle.vrp_cli.specs.Listed.{walk_at}
 use Rattle.vrp_cli.proofs.MergeLemmas.{Merges, merges_on, merges_push, merged}
 use Rattle.vrp_cli.proofs.search.choose.plan_of.Goals as goal
 
@@ -8,9 +10,9 @@ loop-place-preserved c =
     let walks = c.args.walks.now in
     let chosen = c.args.chosen.now in
     let place = c.loop-place.place in
-    let arcs : c.in_ok-arcs.arcs ≡ get_or walks (get_or chosen place 0) [] = c.in_ok-arcs.ensures ∙ sym (c.at.ensures []) in
+    let walk : c.at-walk.result.now ≡ walk_at walks (get_or chosen place 0) = sym (c.at-walk.ensures _) in
     subst (λ (ps : List Taken). Merges walks chosen (place + 1) 0 ps) (sym c.in_ok-push.ensures.ok)
-    (merges_push walks chosen place c.loop-place.count c.loop-place.paths c.in_ok-arcs.arcs c.loop-place.invariant c.loop-place-test.true c.requires.numbers arcs)
+    (merges_push walks chosen place c.loop-place.count c.loop-place.paths c.at-walk.result.now c.in_ok-arcs.arcs c.loop-place.invariant c.loop-place-test.true c.requires.numbers walk c.in_ok-arcs.ensures)
 
 pub loop-place-preserved-then-goes_on : goal.loop-place-preserved-then-goes_on
 loop-place-preserved-then-goes_on c =
