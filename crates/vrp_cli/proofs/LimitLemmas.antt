@@ -1,8 +1,8 @@
 -- Totals and their limits, and why a walk that takes them too far is in no solution.
-use Rattle.std.proofs.Common.{◌≡◌, ℕ, zero, suc, ◌+◌, ◌*◌, ◌<◌, ◌≤◌, ◌^◌, ℤ, pos, negsuc, ◌*ℤ◌, ◌≤ℤ◌, List, [], ◌∷◌, length, get_or, ◌⊎◌, inl, inr, arith, sym, ◌∙◌, ap, subst, refl, All, cond, eqb, slice_index, Option, Some, None}
+use Rattle.std.proofs.Common.{◌≡◌, ℕ, zero, suc, ◌+◌, ◌*◌, ◌<◌, ◌≤◌, ◌^◌, ℤ, pos, negsuc, ◌*ℤ◌, ◌≤ℤ◌, List, [], ◌∷◌, length, get_or, ◌⊎◌, inl, inr, arith, sym, ◌∙◌, ap, subst, refl, All, cond, eqb, slice_index, Option, Some, None, true, false}
 use Rattle.std.proofs.lemmas.Int.{ints}
 use Rattle.std.specs.Int.{int_min, int_max}
-use Rattle.std.proofs.lemmas.Bool.{cases_eq}
+use Rattle.std.proofs.lemmas.Bool.{cases_eq, cases_lt}
 use Rattle.std.proofs.lemmas.Bool.Decides.{nat_tests}
 use Rattle.std.proofs.lemmas.Grind.{same_number_lists}
 use Rattle.std.proofs.lemmas.List.Elements.{All-from_get_or}
@@ -133,6 +133,14 @@ in_limits m w old new sizes h room a may =
   where
     at_most_one : (g : ℕ) → times_in (w.graph ∷ []) g ≤ 1
     at_most_one g = count_by-le-length (λ i. eqb i g) (w.graph ∷ [])
+
+-- a graph of which a test found that it is not full
+pub not_full : (high g : ℕ) (xs ys : List ℕ) → xs ≡ ys → (high ≤ slice_index xs g → false ≡ true) → slice_index ys g < high
+not_full high g xs ys e told =
+    elim (cases_lt (slice_index ys g) high) [
+      | inl l ↦ l
+      | inr l ↦ let never = told (subst (λ (zs : List ℕ). high ≤ slice_index zs g) (sym e) l) in cc
+    ]
 
 -- a graph that is full takes no walk more
 pub full_is_cut : (m : ModelParts) (w : ListedWalk) (t : Totals) → IsListed m w → (graph_at m w.graph).ends.high ≤ slice_index t.counts.items w.graph → IsCut m t w

@@ -21,8 +21,9 @@ use Rattle.vrp_cli.specs.Listed.{vars_along, sets_along, IsListed, walk_at, List
 use Rattle.vrp_cli.specs.Totals.{times_in}
 use Rattle.vrp_cli.proofs.PartialLemmas.{leads_below}
 
-abbrev none : ListedWalk
-none = record { graph = 0; arcs = []; vars = []; sets = [] }
+-- what `walk_at` gives past the end
+abbrev pub no_walk : ListedWalk
+no_walk = record { graph = 0; arcs = []; vars = []; sets = [] }
 
 -- the graphs of a model, and the maps of each
 pub graph_fits : (m : ModelParts) (g : ℕ) → IsModel m → g < length m.graphs → GraphFits m.sets (graph_at m g)
@@ -55,19 +56,19 @@ appends_more m g walks i old new w l h made =
     let count = h.count in
     record {
       count = omega arith;
-      kept = λ k b. get_or_append_left new (w ∷ []) none k (omega arith) ∙ h.kept k b;
+      kept = λ k b. get_or_append_left new (w ∷ []) no_walk k (omega arith) ∙ h.kept k b;
       added = λ k b. elim (cases_lt k i) [ inl c ↦ earlier k c before count | inr c ↦ last k (omega arith) before count ];
     }
   where
     earlier : (k : ℕ) → k < i → length (take i walks) ≡ i → length new ≡ length old + length (take i walks) → IsListed m (walk_at (new ++ w ∷ []) (length old + k)) × ((walk_at (new ++ w ∷ []) (length old + k)).graph ≡ g) × ((walk_at (new ++ w ∷ []) (length old + k)).arcs ≡ get_or (take (i + 1) walks) k [])
     earlier k c before count =
-        let at = get_or_append_left new (w ∷ []) none (length old + k) (omega arith) in
+        let at = get_or_append_left new (w ∷ []) no_walk (length old + k) (omega arith) in
         let is = h.added k (omega arith) in
         let same = get_or-take i walks k [] c ∙ sym (get_or-take (i + 1) walks k [] (omega arith)) in
         subst (λ (x : ListedWalk). IsListed m x × (x.graph ≡ g) × (x.arcs ≡ get_or (take (i + 1) walks) k [])) (sym at) (is.0, is.1, is.2 ∙ same)
     last : (k : ℕ) → k ≡ i → length (take i walks) ≡ i → length new ≡ length old + length (take i walks) → IsListed m (walk_at (new ++ w ∷ []) (length old + k)) × ((walk_at (new ++ w ∷ []) (length old + k)).graph ≡ g) × ((walk_at (new ++ w ∷ []) (length old + k)).arcs ≡ get_or (take (i + 1) walks) k [])
     last k e before count =
-        let at = get_or_push new w none (length old + k) (omega arith) in
+        let at = get_or_push new w no_walk (length old + k) (omega arith) in
         let same = ap (λ (n : ℕ). get_or walks n []) (sym e) ∙ sym (get_or-take (i + 1) walks k [] (omega arith)) in
         subst (λ (x : ListedWalk). IsListed m x × (x.graph ≡ g) × (x.arcs ≡ get_or (take (i + 1) walks) k [])) (sym at) (made.0, made.1, made.2 ∙ same)
 
@@ -84,12 +85,12 @@ pub lists_more : (m : ModelParts) (n : ℕ) (walks : List (List ℕ)) (old new :
 lists_more m n walks old new h list a =
     let count = a.count in
     record {
-      listed = All-from_get_or (IsListed m) new none (λ i l. elim (cases_lt i (length old)) [
-        | inl b ↦ subst (IsListed m) (sym (a.kept i b)) (h.listed i none b)
+      listed = All-from_get_or (IsListed m) new no_walk (λ i l. elim (cases_lt i (length old)) [
+        | inl b ↦ subst (IsListed m) (sym (a.kept i b)) (h.listed i no_walk b)
         | inr b ↦ subst (λ (k : ℕ). IsListed m (walk_at new k)) (from i b) (a.added (i - length old) (omega arith)).0
       ]);
-      below = All-from_get_or (λ w. w.graph < n + 1) new none (λ i l. elim (cases_lt i (length old)) [
-        | inl b ↦ let is = ap (λ (w : ListedWalk). w.graph) (a.kept i b) in let below = h.below i none b in omega arith
+      below = All-from_get_or (λ w. w.graph < n + 1) new no_walk (λ i l. elim (cases_lt i (length old)) [
+        | inl b ↦ let is = ap (λ (w : ListedWalk). w.graph) (a.kept i b) in let below = h.below i no_walk b in omega arith
         | inr b ↦ let is = (a.added (i - length old) (omega arith)).1 in let at = ap (λ (k : ℕ). (walk_at new k).graph) (from i b) in omega arith
       ]);
       complete = λ g arcs l walk. elim (cases_lt g n) [
@@ -110,7 +111,7 @@ lists_more m n walks old new h list a =
             h.once i j l b (sym (ap (λ (w : ListedWalk). w.graph) p) ∙ (graph ∙ ap (λ (w : ListedWalk). w.graph) q)) (sym (ap (λ (w : ListedWalk). w.arcs) p) ∙ (arcs ∙ ap (λ (w : ListedWalk). w.arcs) q))
         | inr b ↦ elim (cases_lt i (length old)) [
           | inl c ↦ let p = ap (λ (w : ListedWalk). w.graph) (a.kept i c) in
-              let below = h.below i none c in
+              let below = h.below i no_walk c in
               let q = (a.added (j - length old) (omega arith)).1 in
               let at = ap (λ (k : ℕ). (walk_at new k).graph) (from j b) in
               omega arith

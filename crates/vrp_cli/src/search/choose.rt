@@ -135,14 +135,16 @@ fn go_back(model: &Model, walks: &List<ListedWalk>, choice: &mut Choice) -> bool
     true
 }
 
-/// Makes a step of the search, unless it is done.
+/// Makes a step of the search, unless it is done. There may be `most` paths.
 fn step(
     alloc: Global,
     model: &Model,
+    most: u64,
     walks: &List<ListedWalk>,
     choice: &mut Choice,
 ) -> Result<bool, NoMemory>
     requires model { IsModel model.now }
+    requires most { most ≡ most_paths model.now.graphs }
     requires walks { ListsAll model.now walks.now }
     requires choice { IsChoiceOf model.now walks.now choice.old }
     ensures { IfOk result (λ more. MatchBool more
@@ -150,7 +152,6 @@ fn step(
         × (choice_left model.now walks.now choice.new < choice_left model.now walks.now choice.old))
         (IsBest model.now walks.now choice.new.best)) }
 {
-    let most = path_total(model.graphs.as_slice());
     if choice.next < walks.len() && (choice.chosen.len() as u64) < most {
         try_next(alloc, model, walks, choice)?;
         return Ok(true);
@@ -158,18 +159,20 @@ fn step(
     Ok(go_back(model, walks, choice))
 }
 
-/// The best of all selections.
+/// The best of all selections. There may be `most` paths.
 fn best_choice(
     alloc: Global,
     model: &Model,
+    most: u64,
     walks: &List<ListedWalk>,
 ) -> Result<Option<Found>, NoMemory>
     requires model { IsModel model.now }
+    requires most { most ≡ most_paths model.now.graphs }
     requires walks { ListsAll model.now walks.now }
     ensures { IfOk result (IsBest model.now walks.now) }
 {
     let mut choice = start(alloc, model)?;
-    while step(alloc, model, walks, &mut choice)? {}
+    while step(alloc, model, most, walks, &mut choice)? {}
     Ok(choice.best)
 }
 
@@ -214,10 +217,12 @@ pub(crate) fn least_plan(alloc: Global, model: &Model) -> Result<Option<Best>, N
     requires { AllConsume model.now }
     ensures least { IfOk result (λ found. MatchOption found (HasNoSolution model.now) (λ best.
         IsLeast model.now best.plan.paths × (best.cost ≡ cost_of model.now best.plan.paths))) }
-    ensures counted { IfOk result (λ found. IfSome found (λ best. AreFew best.plan.paths)) }
+    ensures counted { IfOk result (λ found. IfSome found (λ best.
+        IsCounted best.plan.paths × AreFew best.plan.paths)) }
 {
+    let most = path_total(model.graphs.as_slice());
     let walks = list_all(alloc, model)?;
-    let Some(found) = best_choice(alloc, model, &walks)? else {
+    let Some(found) = best_choice(alloc, model, most, &walks)? else {
         return Ok(None);
     };
     let plan = plan_of(alloc, &walks, found.chosen.as_slice())?;

@@ -75,6 +75,8 @@ fn term_ends(term: &RowTerm, vars: &[Var], values: &[u64]) -> (i64, i64)
     requires values { All (λ v. v ≤ 1000000) values.now }
     ensures least { result.0 ≡ least_term vars.now values.now term.now }
     ensures greatest { result.1 ≡ greatest_term vars.now values.now term.now }
+    ensures least_small { IsWithin 1000000000000 result.0 }
+    ensures greatest_small { IsWithin 1000000000000 result.1 }
 {
     product_ends(term.coef, value_at(values, term.var), high_at(vars, term.var))
 }
