@@ -10,9 +10,6 @@ use Rattle.route_model.specs.declared.plan.Taken.{Taken}
 use Rattle.path_graph.specs.Within.{ConsumesBeforeSink}
 use Rattle.route_model.specs.Parts.{ModelParts, graph_at}
 use Rattle.route_model.specs.Quantities.{cost_of}
-use Rattle.route_model.specs.Solution.{IsLeast}
-use Rattle.route_model.specs.Tidy.{IsTidy, KeepsQuantities, AllComeFrom}
-use Rattle.route_model.proofs.SolutionLemmas.{cost_of-kept, least_kept}
 use Rattle.model_text.specs.declared.kind.TextFault.{TextFault}
 use Rattle.model_text.specs.declared.kind.Kind.TheVariants.{Unbuilt}
 use Rattle.model_text.specs.Kinds.{kind_number, kind_name}
@@ -36,11 +33,7 @@ one_word f (y ∷ []) x w v b l e g h = (
     head : (f y ∷ []) ≡ (w ∷ []) → f y ≡ w
     head q = cc
 
--- the tidy plan that is made of a least one is least, and its text tells it
-pub tidied_least : (m : ModelParts) (old new : List Taken) (cost : ℤ) → IsLeast m old × (cost ≡ cost_of m old) → IsTidy new → KeepsQuantities old new → AllComeFrom old new → IsLeastPlan m cost new
-tidied_least m old new cost best tidy same walks =
-    record { least = least_kept m old new same walks best.0; tidy = tidy; costs = best.1 ∙ sym (cost_of-kept m old new same) }
-
+-- the text of a least plan
 pub tells_least : (input text : List ℕ) (m : ModelParts) (plan : List Taken) (cost : ℤ) → Spells input m → IsLeastPlan m cost plan → text ≡ optimal_text cost plan → TellsLeast text input
 tells_least input text m plan cost spelled best told =
     record {

@@ -9,14 +9,15 @@ use Rattle.route_model.specs.Parts.{ModelParts, taken_at}
 use Rattle.route_model.specs.First.{EachBelow}
 use Rattle.route_model.specs.Fit.{IsModel}
 use Rattle.route_model.specs.Quantities.{is_of, cost_of}
-use Rattle.route_model.specs.Tidy.{KeepsQuantities, AreFew}
+use Rattle.route_model.specs.Tidy.{IsTidy, KeepsQuantities, AllComeFrom, AreFew}
 use Rattle.route_model.specs.Solution.{IsPath, IsSolution, IsLeast, HasNoSolution}
 use Rattle.vrp_cli.specs.declared.search.listed.ListedWalk.{ListedWalk}
 use Rattle.vrp_cli.specs.declared.search.choose.Found.{Found}
 use Rattle.vrp_cli.specs.Listed.{walk_at, ListsAll}
+use Rattle.vrp_cli.specs.Headline.{IsLeastPlan}
 use Rattle.vrp_cli.specs.Selection.{plan_of, IsSelection, IsRisingFrom, IsFound, IsAtMost, IsBest}
-use Rattle.route_model.proofs.SolutionLemmas.{cost_of-kept}
-use Rattle.vrp_cli.proofs.PlanLemmas.{quantity-plan_of, selection_few, selected_path, solution_kept}
+use Rattle.route_model.proofs.SolutionLemmas.{cost_of-kept, solution_kept_of, least_kept}
+use Rattle.vrp_cli.proofs.PlanLemmas.{quantity-plan_of, selection_few, selected_path}
 
 -- a rising list of numbers below n that has what xs has, and the number i so many times more
 record Inserted (n a i count : ℕ) (xs : List ℕ) : Type 0 where
@@ -101,7 +102,7 @@ pub record Exchanges (m : ModelParts) (walks : List ListedWalk) (plan : List Tak
 pub exchanges : (m : ModelParts) (walks : List ListedWalk) (plan : List Taken) → ListsAll m walks → IsSolution m plan → Exchanges m walks plan
 exchanges m walks plan list s =
     let chosen = selects m walks plan list s.paths in
-    let solution = solution_kept m plan (plan_of walks chosen.xs) chosen.keeps (selected_path m walks chosen.xs list chosen.numbers) s in
+    let solution = solution_kept_of m plan (plan_of walks chosen.xs) chosen.keeps (selected_path m walks chosen.xs list chosen.numbers) s in
     record {
       xs = chosen.xs;
       rising = chosen.rising;
@@ -128,16 +129,24 @@ best_is_least m walks best found list e h =
       is.costs,
     )
 
--- a selection has no more walks than a plan may have paths
-pub is_short : (m : ModelParts) (walks : List ListedWalk) (xs : List ℕ) → IsModel m → IsSelection m walks xs → length xs ≤ 4096
-is_short m walks xs model s = omega (arith, model.fits.graphs.few_paths, s.few)
+-- the tidy plan of the best selection is least
+pub tidied_least : (m : ModelParts) (walks : List ListedWalk) (best : Option Found) (found : Found) (old new : List Taken) → ListsAll m walks → best ≡ Some found → IsBest m walks best → old ≡ plan_of walks found.chosen → IsTidy new → KeepsQuantities old new → AllComeFrom old new → IsLeastPlan m found.cost new
+tidied_least m walks best found old new list e h made tidy same comes =
+    let chosen = best_is_least m walks best found list e h in
+    let least : IsLeast m old = subst (λ (ps : List Taken). IsLeast m ps) (sym made) chosen.0 in
+    record {
+      least = least_kept m old new same comes least;
+      tidy = tidy;
+      costs = chosen.1 ∙ (ap (cost_of m) (sym made) ∙ sym (cost_of-kept m old new same));
+    }
 
 at_most_one : (b : Bool) → ◌≤◌ (cond b 1 0) 1
 at_most_one true = omega arith
 at_most_one false = omega arith
 
-pub are_few : (walks : List ListedWalk) (xs : List ℕ) → length xs ≤ 4096 → AreFew (plan_of walks xs)
-are_few walks xs l g =
+-- a selection has few paths of each graph
+pub are_few : (m : ModelParts) (walks : List ListedWalk) (xs : List ℕ) → IsModel m → IsSelection m walks xs → AreFew (plan_of walks xs)
+are_few m walks xs model s g =
     let sums = quantity-plan_of (is_of g) walks xs in
     let le = sum_by-le (λ (i : ℕ). is_of g (walk_at walks i).graph (walk_at walks i).arcs) 1 xs (λ k d b. at_most_one (eqb (walk_at walks (slice_index_or xs k d)).graph g)) in
-    omega (arith, sums, le)
+    omega (arith, sums, le, model.fits.graphs.few_paths, s.few)

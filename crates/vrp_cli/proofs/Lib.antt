@@ -9,4 +9,3 @@ pub mod ChoiceLemmas
 pub mod ExchangeLemmas
 pub mod EndingLemmas
 pub mod ClauseLemmas
-pub mod MergeLemmas

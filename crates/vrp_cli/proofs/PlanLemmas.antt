@@ -1,24 +1,21 @@
 -- Quantities of the plan of a selection, and which selections are solutions.
-use Rattle.std.proofs.Common.{◌≡◌, ℕ, zero, suc, ◌+◌, ◌*◌, ◌<◌, ◌≤◌, ℤ, pos, ◌*ℤ◌, ◌≤ℤ◌, List, [], ◌∷◌, ◌++◌, length, take, get_or, arith, sym, ◌∙◌, ap, subst, refl, All, cond, slice_index}
-use Rattle.std.specs.Prelude.{sum_by, count_by, nat_lt}
-use Rattle.std.proofs.lemmas.Bool.Decides.{nat_tests}
-use Rattle.std.proofs.lemmas.List.{get_or-map, length-map, take_all}
-use Rattle.std.proofs.lemmas.List.Sums.{sum_by-cons, sum_by-append, sum_by_push, sum_by_more}
-use Rattle.path_graph.specs.Walk.{GraphParts}
+use Rattle.std.proofs.Common.{◌≡◌, ℕ, ◌+◌, ◌*◌, ◌<◌, ◌≤◌, ℤ, pos, ◌*ℤ◌, ◌≤ℤ◌, List, [], ◌∷◌, ◌++◌, length, get_or, arith, sym, ◌∙◌, ap, subst, refl, All, cond, slice_index}
+use Rattle.std.specs.Prelude.{sum_by}
+use Rattle.std.proofs.lemmas.List.{get_or-map, length-map}
+use Rattle.std.proofs.lemmas.List.Sums.{sum_by-cons, sum_by-append, sum_by_push}
 use Rattle.path_graph.proofs.SumLemmas.{sum_below-same}
 use Rattle.route_model.specs.declared.plan.Taken.{Taken}
-use Rattle.route_model.specs.declared.parts.RowTerm.{RowTerm}
-use Rattle.route_model.specs.Parts.{ModelParts, var_at, row_at, term_at, graph_at, graph_in, taken_at}
+use Rattle.route_model.specs.Parts.{ModelParts, var_at, row_at, term_at, graph_at, taken_at}
 use Rattle.route_model.specs.First.{EachBelow}
 use Rattle.route_model.specs.Fit.{IsModel, RowFits}
 use Rattle.route_model.specs.Quantities.{quantity, uses_in, value_of, visits_in, is_of, paths_of, row_sum, cost_of}
-use Rattle.route_model.specs.Tidy.{KeepsQuantities}
 use Rattle.route_model.specs.Solution.{IsPath, IsBetween, IsSolution}
 use Rattle.vrp_cli.specs.declared.search.listed.ListedWalk.{ListedWalk}
 use Rattle.vrp_cli.specs.declared.search.totals.Totals.{Totals}
 use Rattle.vrp_cli.specs.Listed.{IsListed, walk_at, ListsAll}
 use Rattle.vrp_cli.specs.Totals.{times_in, AreAll, AreTotalsOf, HaveSizes, GrowsBy, HasAtLeast, HaveWalk, AddsWalk, AreSame, HasBoth, AreInLimits, terms_sum_at, cost_at, TotalsSolve}
 use Rattle.vrp_cli.specs.Selection.{taken_once, plan_of, most_paths, IsSelection}
+use Rattle.route_model.proofs.SolutionLemmas.{paths_few}
 use Rattle.vrp_cli.proofs.ListedLemmas.{listed_vars, listed_sets, graph_times}
 
 -- a quantity of the plan of a selection is the sum of those of its walks
@@ -38,61 +35,6 @@ pub quantity_more : (f : ℕ → List ℕ → ℕ) (walks : List ListedWalk) (xs
 quantity_more f walks xs ys =
     omega (arith, quantity-plan_of f walks (xs ++ ys), quantity-plan_of f walks xs, sum_by-append (λ (k : ℕ). f (walk_at walks k).graph (walk_at walks k).arcs) xs ys)
 
--- how many of the walks are of a graph below n
-abbrev count_below : List ListedWalk → ℕ → List ℕ → ℕ
-count_below walks n xs = count_by (λ i. nat_lt (walk_at walks i).graph n) xs
-
-one_more : (g n : ℕ) → cond (nat_lt g (n + 1)) 1 0 ≡ cond (nat_lt g n) 1 0 + is_of n g []
-one_more g n = grind (arith, nat_tests)
-
-count_below_more : (walks : List ListedWalk) (n : ℕ) (xs : List ℕ) → count_below walks (n + 1) xs ≡ count_below walks n xs + sum_by (λ i. is_of n (walk_at walks i).graph (walk_at walks i).arcs) xs
-count_below_more walks n [] = refl
-count_below_more walks n (i ∷ xs) =
-    let g = (walk_at walks i).graph in
-    let new = sum_by-cons (λ (k : ℕ). cond (nat_lt (walk_at walks k).graph (n + 1)) 1 0) i xs in
-    let old = sum_by-cons (λ (k : ℕ). cond (nat_lt (walk_at walks k).graph n) 1 0) i xs in
-    let here = sum_by-cons (λ (k : ℕ). is_of n (walk_at walks k).graph (walk_at walks k).arcs) i xs in
-    let rest = count_below_more walks n xs in
-    let step = one_more g n in
-    omega (arith, new, old, here, rest, step)
-
-none_below : (walks : List ListedWalk) (xs : List ℕ) → count_below walks 0 xs ≡ 0
-none_below walks [] = refl
-none_below walks (i ∷ xs) =
-    let step = sum_by-cons (λ (k : ℕ). cond (nat_lt (walk_at walks k).graph 0) 1 0) i xs in
-    let here : ◌≡◌ {A = ℕ} (cond (nat_lt (walk_at walks i).graph 0) 1 0) 0 = grind (arith, nat_tests) in
-    let rest = none_below walks xs in
-    omega (arith, step, here, rest)
-
-all_below : (walks : List ListedWalk) (n : ℕ) (xs : List ℕ) → All (λ i. (walk_at walks i).graph < n) xs → count_below walks n xs ≡ length xs
-all_below walks n [] h = refl
-all_below walks n (i ∷ xs) h =
-    let step = sum_by-cons (λ (k : ℕ). cond (nat_lt (walk_at walks k).graph n) 1 0) i xs in
-    let below = h 0 0 (omega arith) in
-    let here : ◌≡◌ {A = ℕ} (cond (nat_lt (walk_at walks i).graph n) 1 0) 1 = grind (arith, nat_tests) in
-    let rest = all_below walks n xs (λ k d l. h (suc k) d (omega arith)) in
-    omega (arith, step, here, rest)
-
-few_below : (graphs : List GraphParts) (walks : List ListedWalk) (xs : List ℕ) (n : ℕ) → n ≤ length graphs → EachBelow (length graphs) (λ g. paths_of (plan_of walks xs) g ≤ (graph_in graphs g).ends.high) → count_below walks n xs ≤ most_paths (take n graphs)
-few_below graphs walks xs zero l h = omega (arith, none_below walks xs)
-few_below graphs walks xs (suc n) l h =
-    let before = few_below graphs walks xs n (omega arith) h in
-    let more = sum_by_more (λ (g : GraphParts). g.ends.high) graphs n (graph_in [] 0) (omega arith) in
-    let count = count_below_more walks n xs in
-    let paths = quantity-plan_of (is_of n) walks xs in
-    let high = h n (omega arith) in
-    let e : suc n ≡ n + 1 = omega arith in
-    subst (λ (k : ℕ). count_below walks k xs ≤ most_paths (take k graphs)) (sym e) (omega (arith, before, more, count, paths, high))
-
--- where no graph has too many paths, a selection has no more walks than there may be paths
-pub selection_few : (m : ModelParts) (walks : List ListedWalk) (xs : List ℕ) → ListsAll m walks → All (λ i. i < length walks) xs → EachBelow (length m.graphs) (λ g. paths_of (plan_of walks xs) g ≤ (graph_at m g).ends.high) → length xs ≤ most_paths m.graphs
-selection_few m walks xs list numbers h =
-    let n = length m.graphs in
-    let few = few_below m.graphs walks xs n (omega arith) h in
-    let all = all_below walks n xs (λ k d l. list.below (get_or xs k d) _ (numbers k d l)) in
-    let whole = ap most_paths (take_all n m.graphs (omega arith)) in
-    omega (arith, few, all, whole)
-
 -- the paths of the plan of a selection
 pub selected_path : (m : ModelParts) (walks : List ListedWalk) (xs : List ℕ) → ListsAll m walks → All (λ i. i < length walks) xs → EachBelow (length (plan_of walks xs)) (λ k. IsPath m (taken_at (plan_of walks xs) k))
 selected_path m walks xs list numbers k l =
@@ -101,6 +43,16 @@ selected_path m walks xs list numbers k l =
     let at : taken_at (plan_of walks xs) k ≡ taken_once walks (get_or xs k 0) = get_or-map (taken_once walks) xs k 0 _ within in
     let is = list.listed (get_or xs k 0) _ (numbers k 0 within) in
     subst (IsPath m) (sym at) (record { graph = is.graph; count = omega arith; walk = is.walk })
+
+sum_of_ones : (xs : List ℕ) → sum_by (λ (i : ℕ). 1) xs ≡ length xs
+sum_of_ones [] = refl
+sum_of_ones (x ∷ xs) = let h = sum_of_ones xs in let c = sum_by-cons (λ (i : ℕ). 1) x xs in omega (arith, c)
+
+-- where no graph has too many paths, a selection has no more walks than there may be paths
+pub selection_few : (m : ModelParts) (walks : List ListedWalk) (xs : List ℕ) → ListsAll m walks → All (λ i. i < length walks) xs → EachBelow (length m.graphs) (λ g. paths_of (plan_of walks xs) g ≤ (graph_at m g).ends.high) → length xs ≤ most_paths m.graphs
+selection_few m walks xs list numbers h =
+    let few = paths_few m.graphs (plan_of walks xs) (λ k l. (selected_path m walks xs list numbers k l).graph) h in
+    omega (arith, few, quantity-plan_of (λ g arcs. 1) walks xs, sum_of_ones xs)
 
 -- one list of totals after a walk more, and before it
 all_push : (n : ℕ) (f : ℕ → ℕ → List ℕ → ℕ) (walks : List ListedWalk) (xs : List ℕ) (i : ℕ) (more : ℕ → ℕ) (old new : List ℕ) → ((k : ℕ) → more k ≡ f k (walk_at walks i).graph (walk_at walks i).arcs) → AreAll n (λ k. quantity (f k) (plan_of walks xs)) old → GrowsBy more old new → AreAll n (λ k. quantity (f k) (plan_of walks (xs ++ i ∷ []))) new
@@ -217,18 +169,3 @@ passes_if_solves m plan t model h s =
       not_below = λ j l. subst (λ (n : ℕ). (var_at m.vars j).low ≤ℤ (pos n)) (sym (h.values.each j l)) (s.vars j l).0;
       rows = λ i l. subst (IsBetween (row_at m.rows i).low (row_at m.rows i).high) (sym (row_same m plan t i model l h)) (s.rows i l);
     }
-
--- plans with the same quantities are solutions alike
-row_kept : (m : ModelParts) (old new : List Taken) (terms : List RowTerm) → KeepsQuantities old new → row_sum m new terms ≡ row_sum m old terms
-row_kept m old new terms keeps =
-    sum_below-same (length terms) (λ k. (term_at terms k).coef *ℤ pos (value_of m new (term_at terms k).var)) (λ k. (term_at terms k).coef *ℤ pos (value_of m old (term_at terms k).var))
-    (λ k l. ap (λ (n : ℕ). (term_at terms k).coef *ℤ pos n) (keeps (uses_in m.maps (term_at terms k).var)))
-
-pub solution_kept : (m : ModelParts) (old new : List Taken) → KeepsQuantities old new → EachBelow (length new) (λ k. IsPath m (taken_at new k)) → IsSolution m old → IsSolution m new
-solution_kept m old new keeps paths s = record {
-  paths = paths;
-  counts = λ g l. subst (λ (n : ℕ). ((graph_in m.graphs g).ends.low ≤ n) × (n ≤ (graph_in m.graphs g).ends.high)) (sym (keeps (is_of g))) (s.counts g l);
-  sets = λ i l. subst (λ (n : ℕ). n ≤ 1) (sym (keeps (visits_in m.graphs i))) (s.sets i l);
-  vars = λ j l. subst (λ (n : ℕ). ((var_at m.vars j).low ≤ℤ (pos n)) × ((pos n) ≤ℤ (var_at m.vars j).high)) (sym (keeps (uses_in m.maps j))) (s.vars j l);
-  rows = λ i l. subst (IsBetween (row_at m.rows i).low (row_at m.rows i).high) (sym (row_kept m old new (row_at m.rows i).terms keeps)) (s.rows i l);
-}

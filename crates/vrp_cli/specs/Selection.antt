@@ -5,13 +5,12 @@ use Rattle.route_model.specs.declared.plan.Taken.{Taken}
 use Rattle.route_model.specs.Parts.{ModelParts}
 use Rattle.route_model.specs.Quantities.{cost_of}
 use Rattle.route_model.specs.Solution.{IsSolution}
-use Rattle.route_model.specs.Tidy.{KeepsQuantities}
 use Rattle.vrp_cli.specs.declared.search.listed.ListedWalk.{ListedWalk}
 use Rattle.vrp_cli.specs.declared.search.totals.Totals.{Totals}
 use Rattle.vrp_cli.specs.declared.search.choose.Found.{Found}
 use Rattle.vrp_cli.specs.declared.search.choose.Choice.{Choice}
 use Rattle.vrp_cli.specs.Ahead.{IsAhead, work_left}
-use Rattle.vrp_cli.specs.Listed.{walk_at, Lists}
+use Rattle.vrp_cli.specs.Listed.{walk_at}
 use Rattle.vrp_cli.specs.Totals.{AreTotalsOf, AreInLimits, TotalsSolve, cost_at}
 
 -- the plan of a selection takes each chosen walk once, and again where it is chosen again
@@ -87,10 +86,3 @@ pub record Considers (m : ModelParts) (old new : Choice) : Type 0 where
   pub considered : TotalsSolve m old.totals
       → IsAtMost new.best (cost_at m.vars old.totals.values.items)
   pub kept : (cost : ℤ) → IsAtMost old.best cost → IsAtMost new.best cost
-
--- each path takes a walk of the list, and the plan has the quantities of the chosen walks
-pub record IsMerged (walks : List ListedWalk) (chosen : List ℕ) (plan : List Taken) : Type 0 where
-  pub walks_of : All (λ t. (1 ≤ t.count) × Lists walks t.graph t.arcs) plan
-  pub few : length plan ≤ length chosen
-  pub counts : All (λ t. t.count ≤ length chosen) plan
-  pub keeps : KeepsQuantities (plan_of walks chosen) plan

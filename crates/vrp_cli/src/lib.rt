@@ -8,5 +8,4 @@ mod search;
 mod solve;
 
 pub use run::{Status, run_vrp};
-pub use search::Best;
-pub use solve::solve_model;
+pub use search::{Best, least_plan};

@@ -6,5 +6,4 @@ mod rows;
 mod totals;
 mod walks;
 
-pub use choose::Best;
-pub(crate) use choose::least_plan;
+pub use choose::{Best, least_plan};

@@ -1,37 +1,17 @@
-ghost use Rattle.std.specs.Prelude.{◌≡◌, ◌∷◌, [], ◌++◌, codes, IfOk, OnOk, MatchOption};
+ghost use Rattle.std.specs.Prelude.{◌≡◌, ◌∷◌, [], ◌++◌, codes, IfOk, OnOk};
 ghost use Rattle.std.specs.List.{flat_map};
 ghost use Rattle.std.specs.Fmt.{decimal, signed_decimal};
 ghost use Rattle.model_text.specs.Lines.{line, path_line};
 ghost use Rattle.model_text.specs.Kinds.{kind_number, kind_name};
-ghost use Rattle.route_model.specs.Solution.{HasNoSolution};
-ghost use Rattle.vrp_cli.specs.Listed.{AllConsume};
-ghost use Rattle.vrp_cli.specs.Headline.{IsLeastPlan, optimal_text};
+ghost use Rattle.vrp_cli.specs.Headline.{optimal_text};
 ghost use Rattle.vrp_cli.specs.Answer.{AnswersInput};
 
 use crate::answer::Answer;
-use crate::search::{Best, least_plan};
+use crate::search::least_plan;
 use model_text::{LineWriter, ReadError, TextFault, read_model};
 use path_graph::NoMemory;
-use route_model::{Model, Plan, Taken, tidy};
+use route_model::{Plan, Taken};
 use std::alloc::Global;
-
-/// A least plan, tidy, with its cost: none exactly where the model has no solution.
-///
-/// The time grows with the number of feasible walks to the power of the paths that there may be.
-pub fn solve_model(alloc: Global, model: &Model) -> Result<Option<Best>, NoMemory>
-    requires { AllConsume model.now }
-    ensures { IfOk result (λ found. MatchOption found (HasNoSolution model.now)
-        (λ best. IsLeastPlan model.now best.cost best.plan.paths)) }
-{
-    let Some(best) = least_plan(alloc, model)? else {
-        return Ok(None);
-    };
-    let plan = tidy(alloc, &best.plan)?;
-    Ok(Some(Best {
-        cost: best.cost,
-        plan,
-    }))
-}
 
 /// What `solve` answers to an input.
 pub(crate) fn solve(alloc: Global, input: &[u8]) -> Result<Answer, NoMemory>
@@ -42,7 +22,7 @@ pub(crate) fn solve(alloc: Global, input: &[u8]) -> Result<Answer, NoMemory>
         Err(ReadError::Text(fault)) => return Ok(Answer::Model(refusal_text(alloc, fault)?)),
         Err(ReadError::Memory) => return Err(NoMemory),
     };
-    let Some(best) = solve_model(alloc, &model)? else {
+    let Some(best) = least_plan(alloc, &model)? else {
         return Ok(Answer::Infeasible);
     };
     Ok(Answer::Optimal(plan_text(alloc, best.cost, &best.plan)?))

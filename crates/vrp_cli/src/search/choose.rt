@@ -1,20 +1,19 @@
-ghost use Rattle.std.specs.Prelude.{◌≡◌, ◌↔◌, ◌⊎◌, IsTrue, ◌+◌, ◌^◌, ◌<◌, ◌≤◌, ℤ, ◌≤ℤ◌, All, List, length, IfOk, OnOk, IfSome, MatchBool, MatchOption, slice_index};
+ghost use Rattle.std.specs.Prelude.{◌≡◌, ◌↔◌, ◌⊎◌, IsTrue, ◌+◌, ◌^◌, ◌<◌, ◌≤◌, ℤ, ◌≤ℤ◌, All, List, length, IfOk, OnOk, IfSome, MatchBool, MatchOption};
 ghost use Rattle.route_model.specs.Fit.{IsModel};
-ghost use Rattle.route_model.specs.Quantities.{cost_of};
-ghost use Rattle.route_model.specs.Solution.{IsLeast, HasNoSolution};
-ghost use Rattle.route_model.specs.Tidy.{AreFew};
+ghost use Rattle.route_model.specs.Solution.{HasNoSolution};
 ghost use Rattle.route_model.specs.Verdicts.{IsCounted};
 ghost use Rattle.vrp_cli.specs.declared.search.listed.ListedWalk.{ListedWalk};
 ghost use Rattle.vrp_cli.specs.Listed.{AllConsume, ListsAll};
 ghost use Rattle.vrp_cli.specs.Totals.{HaveSizes, AreInLimits};
-ghost use Rattle.vrp_cli.specs.Selection.{most_paths, IsFound, IsAtMost, IsChoiceOf, choice_left, IsBest, Considers, IsMerged};
+ghost use Rattle.vrp_cli.specs.Selection.{most_paths, IsAtMost, IsChoiceOf, choice_left, IsBest, Considers, plan_of};
+ghost use Rattle.vrp_cli.specs.Headline.{IsLeastPlan};
 
 use crate::search::checks::cost;
 use crate::search::limits::{is_solution, take};
 use crate::search::listed::{ListedWalk, list_all};
 use crate::search::totals::{Totals, no_totals, remove_walk};
 use path_graph::{List, NoMemory};
-use route_model::{Model, Plan, Taken, path_total};
+use route_model::{Model, Plan, Taken, path_total, tidy};
 use std::alloc::Global;
 
 /// A plan, and what it costs.
@@ -176,49 +175,34 @@ fn best_choice(
     Ok(choice.best)
 }
 
-/// Whether the number at the next place is the same.
-fn goes_on(chosen: &[usize], place: usize) -> bool
-    requires { place < length chosen.now }
-    ensures { IsTrue result ↔ ((place + 1 < length chosen.now)
-        × (slice_index chosen.now (place + 1) ≡ slice_index chosen.now place)) }
-{
-    place + 1 < chosen.len() && chosen[place + 1] == chosen[place]
-}
-
-/// The plan of chosen walks. A walk that is chosen several times in a row is one path with a count.
+/// The plan of chosen walks, one path for each.
 fn plan_of(alloc: Global, walks: &List<ListedWalk>, chosen: &[usize]) -> Result<Plan, NoMemory>
-    requires numbers { All (λ i. i < length walks.now) chosen.now }
-    requires few { length chosen.now ≤ 4096 }
-    ensures { IfOk result (λ plan. IsMerged walks.now chosen.now plan.paths) }
+    requires { All (λ i. i < length walks.now) chosen.now }
+    ensures { IfOk result (λ plan. plan.paths ≡ plan_of walks.now chosen.now) }
 {
-    let mut paths = List::new(alloc);
-    let mut count = 0;
-    for (place, i) in chosen.iter().enumerate() {
-        count += 1;
-        if goes_on(chosen, place) {
-            continue;
-        }
+    let mut paths = Vec::new(alloc);
+    for i in chosen {
         let walk = walks.at(*i);
         let arcs = walk.arcs.copy(alloc)?;
         paths.push(Taken {
             graph: walk.graph,
-            count,
+            count: 1,
             arcs,
         })?;
-        count = 0;
     }
-    Ok(Plan { paths })
+    Ok(Plan {
+        paths: List::from_vec(paths),
+    })
 }
 
-/// A solution of least cost, if there is a solution.
+/// A least plan, tidy, with its cost: none exactly where the model has no solution.
 ///
 /// The time grows with the number of feasible walks to the power of the paths that there may be.
-pub(crate) fn least_plan(alloc: Global, model: &Model) -> Result<Option<Best>, NoMemory>
+pub fn least_plan(alloc: Global, model: &Model) -> Result<Option<Best>, NoMemory>
     requires { AllConsume model.now }
-    ensures least { IfOk result (λ found. MatchOption found (HasNoSolution model.now) (λ best.
-        IsLeast model.now best.plan.paths × (best.cost ≡ cost_of model.now best.plan.paths))) }
-    ensures counted { IfOk result (λ found. IfSome found (λ best.
-        IsCounted best.plan.paths × AreFew best.plan.paths)) }
+    ensures least { IfOk result (λ found. MatchOption found (HasNoSolution model.now)
+        (λ best. IsLeastPlan model.now best.cost best.plan.paths)) }
+    ensures counted { IfOk result (λ found. IfSome found (λ best. IsCounted best.plan.paths)) }
 {
     let most = path_total(model.graphs.as_slice());
     let walks = list_all(alloc, model)?;
@@ -228,6 +212,6 @@ pub(crate) fn least_plan(alloc: Global, model: &Model) -> Result<Option<Best>, N
     let plan = plan_of(alloc, &walks, found.chosen.as_slice())?;
     Ok(Some(Best {
         cost: found.cost,
-        plan,
+        plan: tidy(alloc, &plan)?,
     }))
 }

@@ -4,12 +4,12 @@ use Rattle.vrp_cli.specs.Headline.{optimal_text}
 use Rattle.vrp_cli.proofs.EndingLemmas.{small_consumes, tells_least, refusal_told}
 use Rattle.vrp_cli.proofs.solve.solve.Goals as goal
 
-pub solve_model-requires : goal.solve_model-requires
-solve_model-requires c = small_consumes c.in-Ok.model c.in-Ok.ensures.ok.form
+pub least_plan-requires : goal.least_plan-requires
+least_plan-requires c = small_consumes c.in-Ok.model c.in-Ok.ensures.ok.form
 
 pub returns : goal.returns
 returns c =
-    let best = rw c.in-Some.is at c.in_ok-best.ensures in
+    let best = rw c.in-Some.is at c.in_ok-best.ensures.least in
     let fits : FitsSigned w64 c.in-Some.best.cost = search rules in
     let told = c.in_ok-plan_text.ensures ∙ ap (λ (z : ℤ). optimal_text z c.in-Some.best.plan.paths) (to_z-of_z w64 c.in-Some.best.cost fits) in
     tells_least c.args.input.now c.in_ok-plan_text.field-0 c.in-Ok.model c.in-Some.best.plan.paths c.in-Some.best.cost c.in-Ok.ensures.ok best told
