@@ -1,5 +1,5 @@
 ghost use Rattle.std.specs.Prelude.{◌≡◌, ◌≤◌, pos, ◌*ℤ◌, ◌+ℤ◌, FitsSigned};
-ghost use Rattle.std.specs.Int.{w64};
+ghost use Rattle.std.specs.Int.{w64, int_min, int_max};
 ghost use Rattle.path_graph.specs.Within.{IsWithin};
 
 /// A small number as a signed one.
@@ -25,4 +25,18 @@ pub fn added(total: i64, more: i64) -> i64
     ensures { result ≡ total +ℤ more }
 {
     total + more
+}
+
+/// The least and the greatest of a product while the second factor goes from one number to another: each lies at an
+/// end.
+pub fn product_ends(factor: i64, from: i64, to: i64) -> (i64, i64)
+    requires factor { IsWithin 1000000000 factor }
+    requires from { IsWithin 1000000 from }
+    requires to { IsWithin 1000000 to }
+    ensures least { result.0 ≡ int_min (factor *ℤ from) (factor *ℤ to) }
+    ensures greatest { result.1 ≡ int_max (factor *ℤ from) (factor *ℤ to) }
+{
+    let at_from = product(factor, from);
+    let at_to = product(factor, to);
+    (at_from.min(at_to), at_from.max(at_to))
 }

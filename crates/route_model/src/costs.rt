@@ -8,7 +8,7 @@ ghost use Rattle.route_model.specs.Quantities.{cost_of};
 ghost use Rattle.route_model.specs.Solution.{IsSolution};
 ghost use Rattle.route_model.specs.Costs.{least_var_cost, greatest_var_cost, least_box_cost, greatest_box_cost, cost_above_all};
 
-use crate::arithmetic::{added, product};
+use crate::arithmetic::{added, product_ends};
 use crate::parts::{Model, Var};
 use path_graph::List;
 
@@ -85,7 +85,5 @@ fn end_costs(var: &Var) -> (i64, i64)
     ensures least { result.0 ≡ least_var_cost var.now }
     ensures greatest { result.1 ≡ greatest_var_cost var.now }
 {
-    let at_low = product(var.cost, var.low);
-    let at_high = product(var.cost, var.high);
-    (at_low.min(at_high), at_low.max(at_high))
+    product_ends(var.cost, var.low, var.high)
 }

@@ -159,7 +159,7 @@ fn arc_total(graphs: &[Graph]) -> u64
 }
 
 /// How many paths the graphs may have, or the greatest `u64` where that is less.
-fn path_total(graphs: &[Graph]) -> u64
+pub fn path_total(graphs: &[Graph]) -> u64
     ensures { result ≡ min (sum_by (λ g. g.ends.high) graphs.now) (2 ^ 64 - 1) }
 {
     let mut total: u64 = 0;

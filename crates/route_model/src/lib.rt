@@ -12,9 +12,10 @@ mod quantities;
 mod solution;
 mod tidying;
 
+pub use arithmetic::{added, product, product_ends};
 pub use costs::box_costs;
-pub use fit::model_fits;
+pub use fit::{model_fits, path_total};
 pub use parts::{BuildFault, Model, Row, RowTerm, Var};
 pub use plan::{Plan, Taken, Verdict};
-pub use solution::judge;
+pub use solution::{is_between, judge};
 pub use tidying::tidy;

@@ -191,7 +191,7 @@ fn row_of(model: &Model, row: u32) -> &Row
 }
 
 /// Whether a number lies within the sides that are not open.
-fn is_between(low: Option<i64>, high: Option<i64>, total: i64) -> bool
+pub fn is_between(low: Option<i64>, high: Option<i64>, total: i64) -> bool
     ensures { IsTrue result ↔ IsBetween low high total }
 {
     let above = match low {
@@ -232,7 +232,6 @@ fn term_value(model: &Model, paths: &[Taken], term: &RowTerm) -> i64
 }
 
 /// The value of a variable that lies in its box.
-
 fn boxed_value(model: &Model, paths: &[Taken], var: u32) -> i64
     requires counted { IsCounted paths.now }
     requires in_box { InBox model.now paths.now var }

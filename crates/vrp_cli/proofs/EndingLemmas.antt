@@ -7,19 +7,18 @@ use Rattle.std.proofs.lemmas.Slice.Eq.{bytes_eq-Decides}
 use Rattle.std.proofs.KnownBytes.{Consumes-whole}
 use Rattle.vrp_io.specs.Bytes.{TookAll}
 use Rattle.route_model.specs.declared.plan.Taken.{Taken}
-use Rattle.route_model.specs.Parts.{ModelParts}
+use Rattle.path_graph.specs.Within.{ConsumesBeforeSink}
+use Rattle.route_model.specs.Parts.{ModelParts, graph_at}
 use Rattle.route_model.specs.Quantities.{cost_of}
-use Rattle.route_model.specs.Solution.{IsLeast}
-use Rattle.route_model.specs.Tidy.{IsTidy, KeepsQuantities, AllComeFrom}
-use Rattle.route_model.proofs.SolutionLemmas.{cost_of-kept, least_kept}
 use Rattle.model_text.specs.declared.kind.TextFault.{TextFault}
 use Rattle.model_text.specs.declared.kind.Kind.TheVariants.{Unbuilt}
 use Rattle.model_text.specs.Kinds.{kind_number, kind_name}
 use Rattle.model_text.specs.Lines.{line}
-use Rattle.model_text.specs.SmallForm.{Spells, SpellsNothing}
+use Rattle.model_text.specs.SmallForm.{IsSmallForm, Spells, SpellsNothing}
 use Rattle.vrp_cli.specs.declared.answer.Answer.{Answer}
 use Rattle.vrp_cli.specs.declared.answer.Answer.TheVariants.{Optimal, Infeasible, Words, Model, ReadFailed, Memory, TooLong}
-use Rattle.vrp_cli.specs.Headline.{AreTaken, input_limit, optimal_text, TellsLeast, SpellsInfeasible, ReadWhole, Answers, optimal, infeasible, model_refused}
+use Rattle.vrp_cli.specs.Headline.{IsLeastPlan, AreTaken, input_limit, optimal_text, TellsLeast, SpellsInfeasible, ReadWhole, Answers, optimal, infeasible, model_refused}
+use Rattle.vrp_cli.specs.Listed.{AllConsume}
 use Rattle.vrp_cli.specs.Answer.{status_of, text_of, AnswersInput}
 
 -- one word that is compared with another
@@ -34,17 +33,23 @@ one_word f (y ∷ []) x w v b l e g h = (
     head : (f y ∷ []) ≡ (w ∷ []) → f y ≡ w
     head q = cc
 
--- the text of a tidy plan made of a least one
-pub tells_least : (input text : List ℕ) (m : ModelParts) (old new : List Taken) (cost : ℤ) → Spells input m → IsLeast m old × (cost ≡ cost_of m old) → IsTidy new → KeepsQuantities old new → AllComeFrom old new → text ≡ optimal_text cost new → TellsLeast text input
-tells_least input text m old new cost spelled best tidy same walks told =
+-- the text of a least plan
+pub tells_least : (input text : List ℕ) (m : ModelParts) (plan : List Taken) (cost : ℤ) → Spells input m → IsLeastPlan m cost plan → text ≡ optimal_text cost plan → TellsLeast text input
+tells_least input text m plan cost spelled best told =
     record {
       model = m;
       spelled = spelled;
-      plan = new;
-      least = least_kept m old new same walks best.0;
-      tidy = tidy;
-      told = told ∙ ap (λ (z : ℤ). optimal_text z new) (best.1 ∙ sym (cost_of-kept m old new same));
+      plan = plan;
+      least = best.least;
+      tidy = best.tidy;
+      told = told ∙ ap (λ (z : ℤ). optimal_text z plan) best.costs;
     }
+
+-- the one graph of a model of the small form consumes
+pub small_consumes : (m : ModelParts) → IsSmallForm m → AllConsume m
+small_consumes m form g l =
+    let e : 0 ≡ g = omega (arith, form.one_graph) in
+    subst (λ (k : ℕ). ConsumesBeforeSink (graph_at m k).ends (graph_at m k).arcs) e form.consumes
 
 read_whole : (old new : Option (List ℕ)) (faults_old faults_new : ℕ) (input : List ℕ) (P : List ℕ → Type 0) → TookAll old new input → faults_new ≡ faults_old → length input ≤ input_limit → P input → ReadWhole old new faults_old faults_new P
 read_whole old new faults_old faults_new input P took kept few holds =

@@ -1,24 +1,23 @@
 -- Each solution has the quantities of a rising selection, so the best selection is a least solution.
-use Rattle.std.proofs.Common.{◌≡◌, ℕ, zero, suc, ◌+◌, ◌*◌, ◌<◌, ◌≤◌, ℤ, ◌≤ℤ◌, List, [], ◌∷◌, length, get_or, inl, inr, arith, sym, ◌∙◌, ap, subst, refl, All, Option, Some, None, IfSome, Bool, true, false, cond, eqb}
-use Rattle.std.specs.Prelude.{sum_by}
+use Rattle.std.proofs.Common.{◌≡◌, ℕ, zero, suc, ◌+◌, ◌*◌, ◌<◌, ◌≤◌, ℤ, ◌≤ℤ◌, List, [], ◌∷◌, length, inl, inr, arith, sym, ◌∙◌, ap, subst, refl, All, Option, Some, None, IfSome, Bool, true, false, cond, eqb}
+use Rattle.std.specs.Prelude.{sum_by, slice_index_or}
 use Rattle.std.proofs.lemmas.Bool.{cases_lt}
-use Rattle.std.proofs.lemmas.List.{get_or_default}
 use Rattle.std.proofs.lemmas.List.Sums.{sum_by-cons, sum_by-le}
 use Rattle.std.proofs.lemmas.List.Elements.{All-nil, All-cons}
-use Rattle.path_graph.specs.Walk.{IsFeasibleWalk}
 use Rattle.route_model.specs.declared.plan.Taken.{Taken}
-use Rattle.route_model.specs.Parts.{ModelParts, graph_at, taken_at}
+use Rattle.route_model.specs.Parts.{ModelParts, taken_at}
 use Rattle.route_model.specs.First.{EachBelow}
-use Rattle.route_model.specs.Fit.{GraphFits}
+use Rattle.route_model.specs.Fit.{IsModel}
 use Rattle.route_model.specs.Quantities.{is_of, cost_of}
-use Rattle.route_model.specs.Tidy.{KeepsQuantities, AreFew}
+use Rattle.route_model.specs.Tidy.{IsTidy, KeepsQuantities, AllComeFrom, AreFew}
 use Rattle.route_model.specs.Solution.{IsPath, IsSolution, IsLeast, HasNoSolution}
-use Rattle.model_text.specs.SmallForm.{IsSmallForm}
+use Rattle.vrp_cli.specs.declared.search.listed.ListedWalk.{ListedWalk}
 use Rattle.vrp_cli.specs.declared.search.choose.Found.{Found}
-use Rattle.vrp_cli.specs.Partial.{IsWalkList}
+use Rattle.vrp_cli.specs.Listed.{walk_at, ListsAll}
+use Rattle.vrp_cli.specs.Headline.{IsLeastPlan}
 use Rattle.vrp_cli.specs.Selection.{plan_of, IsSelection, IsRisingFrom, IsFound, IsAtMost, IsBest}
-use Rattle.route_model.proofs.SolutionLemmas.{cost_of-kept}
-use Rattle.vrp_cli.proofs.PlanLemmas.{quantity-plan_of, paths_of-plan_of, selected_path, solution_kept}
+use Rattle.route_model.proofs.SolutionLemmas.{cost_of-kept, solution_kept_of, least_kept}
+use Rattle.vrp_cli.proofs.PlanLemmas.{quantity-plan_of, selection_few, selected_path}
 
 -- a rising list of numbers below n that has what xs has, and the number i so many times more
 record Inserted (n a i count : ℕ) (xs : List ℕ) : Type 0 where
@@ -64,22 +63,19 @@ insert_many n i (suc count) xs r h b =
     }
 
 -- a rising selection with the quantities of a plan
-pub record Selects (walks : List (List ℕ)) (plan : List Taken) : Type 0 where
+pub record Selects (walks : List ListedWalk) (plan : List Taken) : Type 0 where
   pub xs : List ℕ
   pub rising : IsRisingFrom 0 xs
   pub numbers : All (λ i. i < length walks) xs
   pub keeps : KeepsQuantities plan (plan_of walks xs)
 
-pub selects : (m : ModelParts) (walks : List (List ℕ)) (plan : List Taken) → length m.graphs ≡ 1 → IsWalkList (graph_at m 0) walks → EachBelow (length plan) (λ k. IsPath m (taken_at plan k)) → Selects walks plan
-selects m walks [] one list paths = record { xs = []; rising = tt; numbers = All-nil (λ i. i < length walks); keeps = λ f. refl }
-selects m walks (t ∷ plan) one list paths =
-    let rest = selects m walks plan one list (λ k l. paths (suc k) (omega arith)) in
+pub selects : (m : ModelParts) (walks : List ListedWalk) (plan : List Taken) → ListsAll m walks → EachBelow (length plan) (λ k. IsPath m (taken_at plan k)) → Selects walks plan
+selects m walks [] list paths = record { xs = []; rising = tt; numbers = All-nil (λ i. i < length walks); keeps = λ f. refl }
+selects m walks (t ∷ plan) list paths =
+    let rest = selects m walks plan list (λ k l. paths (suc k) (omega arith)) in
     let path : IsPath m t = paths 0 (omega arith) in
-    let inside = path.graph in
-    let graph : t.graph ≡ 0 = omega arith in
-    let found = list.complete t.arcs (subst (λ (g : ℕ). IsFeasibleWalk (graph_at m g) t.arcs) graph path.walk) in
+    let found = list.complete t.graph t.arcs path.graph path.walk in
     let i = found.0 in
-    let arcs : get_or walks i [] ≡ t.arcs = get_or_default walks i [] t.arcs found.1 ∙ found.2 in
     let more = insert_many (length walks) i t.count rest.xs rest.rising rest.numbers found.1 in
     record {
       xs = more.ys;
@@ -87,65 +83,70 @@ selects m walks (t ∷ plan) one list paths =
       numbers = more.numbers;
       keeps = λ f.
           let made = quantity-plan_of f walks more.ys in
-          let sums = more.sums (λ k. f 0 (get_or walks k [])) in
+          let sums = more.sums (λ k. f (walk_at walks k).graph (walk_at walks k).arcs) in
           let old = sum_by-cons (λ (s : Taken). s.count * f s.graph s.arcs) t plan in
           let before = quantity-plan_of f walks rest.xs in
           let kept = rest.keeps f in
-          let same : t.count * f t.graph t.arcs ≡ t.count * f 0 (get_or walks i []) = ap (λ (g : ℕ). t.count * f g t.arcs) graph ∙ ap (λ (w : List ℕ). t.count * f 0 w) (sym arcs) in
+          let same : t.count * f (walk_at walks i).graph (walk_at walks i).arcs ≡ t.count * f t.graph t.arcs = ap (λ (g : ℕ). t.count * f g (walk_at walks i).arcs) found.2 ∙ ap (λ (w : List ℕ). t.count * f t.graph w) found.3 in
           omega (arith, made, sums, old, before, kept, same);
     }
 
 -- a solution costs what some rising selection costs that is a solution
-pub record Exchanges (m : ModelParts) (walks : List (List ℕ)) (plan : List Taken) : Type 0 where
+pub record Exchanges (m : ModelParts) (walks : List ListedWalk) (plan : List Taken) : Type 0 where
   pub xs : List ℕ
   pub rising : IsRisingFrom 0 xs
   pub selection : IsSelection m walks xs
   pub solution : IsSolution m (plan_of walks xs)
   pub costs : cost_of m (plan_of walks xs) ≡ cost_of m plan
 
-pub exchanges : (m : ModelParts) (walks : List (List ℕ)) (plan : List Taken) → IsSmallForm m → IsWalkList (graph_at m 0) walks → IsSolution m plan → Exchanges m walks plan
-exchanges m walks plan form list s =
-    let chosen = selects m walks plan form.one_graph list s.paths in
-    let solution = solution_kept m plan (plan_of walks chosen.xs) chosen.keeps (selected_path m walks chosen.xs form list chosen.numbers) s in
-    let high = (solution.counts 0 (omega (arith, form.one_graph))).1 in
+pub exchanges : (m : ModelParts) (walks : List ListedWalk) (plan : List Taken) → ListsAll m walks → IsSolution m plan → Exchanges m walks plan
+exchanges m walks plan list s =
+    let chosen = selects m walks plan list s.paths in
+    let solution = solution_kept_of m plan (plan_of walks chosen.xs) chosen.keeps (selected_path m walks chosen.xs list chosen.numbers) s in
     record {
       xs = chosen.xs;
       rising = chosen.rising;
-      selection = record { numbers = chosen.numbers; few = omega (arith, high, paths_of-plan_of walks chosen.xs) };
+      selection = record { numbers = chosen.numbers; few = selection_few m walks chosen.xs list chosen.numbers (λ g l. (solution.counts g l).1) };
       solution = solution;
       costs = cost_of-kept m plan (plan_of walks chosen.xs) chosen.keeps;
     }
 
-pub none_solves : (m : ModelParts) (walks : List (List ℕ)) (best : Option Found) → IsSmallForm m → IsWalkList (graph_at m 0) walks → best ≡ None → IsBest m walks best → HasNoSolution m
-none_solves m walks best form list e h plan s =
-    let x = exchanges m walks plan form list s in
+pub none_solves : (m : ModelParts) (walks : List ListedWalk) (best : Option Found) → ListsAll m walks → best ≡ None → IsBest m walks best → HasNoSolution m
+none_solves m walks best list e h plan s =
+    let x = exchanges m walks plan list s in
     subst (λ (b : Option Found). IsAtMost b (cost_of m (plan_of walks x.xs))) e (h.least x.xs x.rising x.selection x.solution)
 
-pub best_is_least : (m : ModelParts) (walks : List (List ℕ)) (best : Option Found) (found : Found) → IsSmallForm m → IsWalkList (graph_at m 0) walks → best ≡ Some found → IsBest m walks best → IsLeast m (plan_of walks found.chosen) × (found.cost ≡ cost_of m (plan_of walks found.chosen))
-best_is_least m walks best found form list e h =
+pub best_is_least : (m : ModelParts) (walks : List ListedWalk) (best : Option Found) (found : Found) → ListsAll m walks → best ≡ Some found → IsBest m walks best → IsLeast m (plan_of walks found.chosen) × (found.cost ≡ cost_of m (plan_of walks found.chosen))
+best_is_least m walks best found list e h =
     let is : IsFound m walks found = subst (λ (b : Option Found). IfSome b (IsFound m walks)) e h.found in (
       record {
         solution = is.solution;
         least = λ other s.
-            let x = exchanges m walks other form list s in
+            let x = exchanges m walks other list s in
             let le : found.cost ≤ℤ cost_of m (plan_of walks x.xs) = subst (λ (b : Option Found). IsAtMost b (cost_of m (plan_of walks x.xs))) e (h.least x.xs x.rising x.selection x.solution) in
             subst (λ (c : ℤ). c ≤ℤ (cost_of m other)) is.costs (subst (λ (c : ℤ). found.cost ≤ℤ c) x.costs le);
       },
       is.costs,
     )
 
--- a selection has no more walks than a plan may have paths
-pub is_short : (m : ModelParts) (walks : List (List ℕ)) (xs : List ℕ) → IsSmallForm m → IsSelection m walks xs → length xs ≤ 4096
-is_short m walks xs form s =
-    let fits : GraphFits m.sets (graph_at m 0) = form.model.fits.graphs.each 0 _ (omega (arith, form.one_graph)) in
-    omega (arith, fits.graph.ends_fit.most_paths, s.few)
+-- the tidy plan of the best selection is least
+pub tidied_least : (m : ModelParts) (walks : List ListedWalk) (best : Option Found) (found : Found) (old new : List Taken) → ListsAll m walks → best ≡ Some found → IsBest m walks best → old ≡ plan_of walks found.chosen → IsTidy new → KeepsQuantities old new → AllComeFrom old new → IsLeastPlan m found.cost new
+tidied_least m walks best found old new list e h made tidy same comes =
+    let chosen = best_is_least m walks best found list e h in
+    let least : IsLeast m old = subst (λ (ps : List Taken). IsLeast m ps) (sym made) chosen.0 in
+    record {
+      least = least_kept m old new same comes least;
+      tidy = tidy;
+      costs = chosen.1 ∙ (ap (cost_of m) (sym made) ∙ sym (cost_of-kept m old new same));
+    }
 
 at_most_one : (b : Bool) → ◌≤◌ (cond b 1 0) 1
 at_most_one true = omega arith
 at_most_one false = omega arith
 
-pub are_few : (walks : List (List ℕ)) (xs : List ℕ) → length xs ≤ 4096 → AreFew (plan_of walks xs)
-are_few walks xs l g =
+-- a selection has few paths of each graph
+pub are_few : (m : ModelParts) (walks : List ListedWalk) (xs : List ℕ) → IsModel m → IsSelection m walks xs → AreFew (plan_of walks xs)
+are_few m walks xs model s g =
     let sums = quantity-plan_of (is_of g) walks xs in
-    let le = sum_by-le (λ (i : ℕ). is_of g 0 (get_or walks i [])) 1 xs (λ k d b. at_most_one (eqb 0 g)) in
-    omega (arith, sums, le)
+    let le = sum_by-le (λ (i : ℕ). is_of g (walk_at walks i).graph (walk_at walks i).arcs) 1 xs (λ k d b. at_most_one (eqb (walk_at walks (slice_index_or xs k d)).graph g)) in
+    omega (arith, sums, le, model.fits.graphs.few_paths, s.few)

@@ -1,10 +1,11 @@
 pub mod AheadLemmas
 pub mod PartialLemmas
+pub mod ListedLemmas
 pub mod Results
 pub mod CheckLemmas
 pub mod PlanLemmas
+pub mod LimitLemmas
 pub mod ChoiceLemmas
 pub mod ExchangeLemmas
 pub mod EndingLemmas
 pub mod ClauseLemmas
-pub mod MergeLemmas

@@ -1,195 +1,171 @@
 -- Quantities of the plan of a selection, and which selections are solutions.
-use Rattle.std.proofs.Common.{◌≡◌, ◌≢◌, ℕ, suc, ◌+◌, ◌*◌, ◌<◌, ◌≤◌, pos, ◌*ℤ◌, ◌≤ℤ◌, List, [], ◌∷◌, ◌++◌, length, get_or, inl, inr, arith, sym, ◌∙◌, ap, subst, refl, All, Bool, true, false, cond, ◌||◌, eqb, slice_index}
-use Rattle.std.specs.Prelude.{sum_by, count_by}
-use Rattle.std.specs.List.{list_any}
-use Rattle.std.specs.List.Sorted.{IsStrictlyIncreasing}
-use Rattle.std.proofs.lemmas.Bool.{cases_lt, cases_eq}
-use Rattle.std.proofs.lemmas.Bool.Decides.{nat_tests}
-use Rattle.std.proofs.lemmas.List.{get_or_past, get_or-map, length-map}
-use Rattle.std.proofs.lemmas.List.Sums.{sum_by-cons, sum_by-append, sum_by_push, sum_by-le-sum_by, count_by-le-length}
-use Rattle.std.proofs.lemmas.List.Elements.{All-weaker}
+use Rattle.std.proofs.Common.{◌≡◌, ℕ, ◌+◌, ◌*◌, ◌<◌, ◌≤◌, ℤ, pos, ◌*ℤ◌, ◌≤ℤ◌, List, [], ◌∷◌, ◌++◌, length, get_or, arith, sym, ◌∙◌, ap, subst, refl, All, cond, slice_index}
+use Rattle.std.specs.Prelude.{sum_by}
+use Rattle.std.proofs.lemmas.List.{get_or-map, length-map}
+use Rattle.std.proofs.lemmas.List.Sums.{sum_by-cons, sum_by-append, sum_by_push}
 use Rattle.path_graph.proofs.SumLemmas.{sum_below-same}
 use Rattle.route_model.specs.declared.plan.Taken.{Taken}
-use Rattle.route_model.specs.declared.parts.RowTerm.{RowTerm}
-use Rattle.route_model.specs.Parts.{ModelParts, var_at, row_at, term_at, graph_at, graph_in, maps_in, mapped_vars, taken_at}
+use Rattle.route_model.specs.Parts.{ModelParts, var_at, row_at, term_at, graph_at, taken_at}
 use Rattle.route_model.specs.First.{EachBelow}
-use Rattle.route_model.specs.Fit.{GraphMapsFit, MapFits, RowFits}
-use Rattle.route_model.specs.Quantities.{quantity, is_mapped, uses_in, value_of, visits_in, is_of, paths_of, row_sum, cost_of}
-use Rattle.route_model.specs.Tidy.{KeepsQuantities}
-use Rattle.route_model.specs.Solution.{IsPath, CountFits, IsBetween, IsSolution}
-use Rattle.model_text.specs.SmallForm.{IsSmallForm}
-use Rattle.vrp_cli.specs.Partial.{IsWalkList}
-use Rattle.vrp_cli.specs.Values.{uses_by, AreMaps, AreValuesOf, AreNotAbove, terms_sum_at, cost_at, ValuesSolve}
-use Rattle.vrp_cli.specs.Selection.{taken_once, plan_of, IsSelection}
-use Rattle.vrp_cli.proofs.PartialLemmas.{leads_below}
+use Rattle.route_model.specs.Fit.{IsModel, RowFits}
+use Rattle.route_model.specs.Quantities.{quantity, uses_in, value_of, visits_in, is_of, paths_of, row_sum, cost_of}
+use Rattle.route_model.specs.Solution.{IsPath, IsBetween, IsSolution}
+use Rattle.vrp_cli.specs.declared.search.listed.ListedWalk.{ListedWalk}
+use Rattle.vrp_cli.specs.declared.search.totals.Totals.{Totals}
+use Rattle.vrp_cli.specs.Listed.{IsListed, walk_at, ListsAll}
+use Rattle.vrp_cli.specs.Totals.{times_in, AreAll, AreTotalsOf, HaveSizes, GrowsBy, HasAtLeast, HaveWalk, AddsWalk, AreSame, HasBoth, AreInLimits, terms_sum_at, cost_at, TotalsSolve}
+use Rattle.vrp_cli.specs.Selection.{taken_once, plan_of, most_paths, IsSelection}
+use Rattle.route_model.proofs.SolutionLemmas.{paths_few}
+use Rattle.vrp_cli.proofs.ListedLemmas.{listed_vars, listed_sets, graph_times}
 
-pub quantity-plan_of : (f : ℕ → List ℕ → ℕ) (walks : List (List ℕ)) (xs : List ℕ) → quantity f (plan_of walks xs) ≡ sum_by (λ i. f 0 (get_or walks i [])) xs
+-- a quantity of the plan of a selection is the sum of those of its walks
+pub quantity-plan_of : (f : ℕ → List ℕ → ℕ) (walks : List ListedWalk) (xs : List ℕ) → quantity f (plan_of walks xs) ≡ sum_by (λ i. f (walk_at walks i).graph (walk_at walks i).arcs) xs
 quantity-plan_of f walks [] = refl
 quantity-plan_of f walks (i ∷ xs) =
     let whole = sum_by-cons (λ (t : Taken). t.count * f t.graph t.arcs) (taken_once walks i) (plan_of walks xs) in
-    let sums = sum_by-cons (λ (k : ℕ). f 0 (get_or walks k [])) i xs in
+    let sums = sum_by-cons (λ (k : ℕ). f (walk_at walks k).graph (walk_at walks k).arcs) i xs in
     let rest = quantity-plan_of f walks xs in
     omega (arith, whole, sums, rest)
 
-pub quantity-push : (f : ℕ → List ℕ → ℕ) (walks : List (List ℕ)) (xs : List ℕ) (i : ℕ) → quantity f (plan_of walks (xs ++ i ∷ [])) ≡ quantity f (plan_of walks xs) + f 0 (get_or walks i [])
+pub quantity-push : (f : ℕ → List ℕ → ℕ) (walks : List ListedWalk) (xs : List ℕ) (i : ℕ) → quantity f (plan_of walks (xs ++ i ∷ [])) ≡ quantity f (plan_of walks xs) + f (walk_at walks i).graph (walk_at walks i).arcs
 quantity-push f walks xs i =
-    omega (arith, quantity-plan_of f walks (xs ++ i ∷ []), quantity-plan_of f walks xs, sum_by_push (λ (k : ℕ). f 0 (get_or walks k [])) xs i)
+    omega (arith, quantity-plan_of f walks (xs ++ i ∷ []), quantity-plan_of f walks xs, sum_by_push (λ (k : ℕ). f (walk_at walks k).graph (walk_at walks k).arcs) xs i)
 
-pub quantity_more : (f : ℕ → List ℕ → ℕ) (walks : List (List ℕ)) (xs ys : List ℕ) → quantity f (plan_of walks xs) ≤ quantity f (plan_of walks (xs ++ ys))
+pub quantity_more : (f : ℕ → List ℕ → ℕ) (walks : List ListedWalk) (xs ys : List ℕ) → quantity f (plan_of walks xs) ≤ quantity f (plan_of walks (xs ++ ys))
 quantity_more f walks xs ys =
-    omega (arith, quantity-plan_of f walks (xs ++ ys), quantity-plan_of f walks xs, sum_by-append (λ (k : ℕ). f 0 (get_or walks k [])) xs ys)
+    omega (arith, quantity-plan_of f walks (xs ++ ys), quantity-plan_of f walks xs, sum_by-append (λ (k : ℕ). f (walk_at walks k).graph (walk_at walks k).arcs) xs ys)
+
+-- the paths of the plan of a selection
+pub selected_path : (m : ModelParts) (walks : List ListedWalk) (xs : List ℕ) → ListsAll m walks → All (λ i. i < length walks) xs → EachBelow (length (plan_of walks xs)) (λ k. IsPath m (taken_at (plan_of walks xs) k))
+selected_path m walks xs list numbers k l =
+    let len = length-map xs (taken_once walks) in
+    let within : k < length xs = omega (arith, len) in
+    let at : taken_at (plan_of walks xs) k ≡ taken_once walks (get_or xs k 0) = get_or-map (taken_once walks) xs k 0 _ within in
+    let is = list.listed (get_or xs k 0) _ (numbers k 0 within) in
+    subst (IsPath m) (sym at) (record { graph = is.graph; count = omega arith; walk = is.walk })
 
 sum_of_ones : (xs : List ℕ) → sum_by (λ (i : ℕ). 1) xs ≡ length xs
 sum_of_ones [] = refl
 sum_of_ones (x ∷ xs) = let h = sum_of_ones xs in let c = sum_by-cons (λ (i : ℕ). 1) x xs in omega (arith, c)
 
-pub paths_of-plan_of : (walks : List (List ℕ)) (xs : List ℕ) → paths_of (plan_of walks xs) 0 ≡ length xs
-paths_of-plan_of walks xs = quantity-plan_of (is_of 0) walks xs ∙ sum_of_ones xs
+-- where no graph has too many paths, a selection has no more walks than there may be paths
+pub selection_few : (m : ModelParts) (walks : List ListedWalk) (xs : List ℕ) → ListsAll m walks → All (λ i. i < length walks) xs → EachBelow (length m.graphs) (λ g. paths_of (plan_of walks xs) g ≤ (graph_at m g).ends.high) → length xs ≤ most_paths m.graphs
+selection_few m walks xs list numbers h =
+    let few = paths_few m.graphs (plan_of walks xs) (λ k l. (selected_path m walks xs list numbers k l).graph) h in
+    omega (arith, few, quantity-plan_of (λ g arcs. 1) walks xs, sum_of_ones xs)
 
--- each number is above the one before it
-abbrev StrictFrom : ℕ → List ℕ → Type 0
-StrictFrom x [] = Unit {0}
-StrictFrom x (y ∷ ys) = (x < y) × StrictFrom y ys
-
-strict_rest : (x : ℕ) (ys : List ℕ) → IsStrictlyIncreasing (x ∷ ys) → IsStrictlyIncreasing ys
-strict_rest x ys h k l =
-    let e : suc k + 1 ≡ suc (k + 1) = omega arith in
-    subst (λ (n : ℕ). get_or ys k 0 < get_or (x ∷ ys) n 0) e (h (suc k) (omega arith))
-
-strict_from : (x : ℕ) (ys : List ℕ) → IsStrictlyIncreasing (x ∷ ys) → StrictFrom x ys
-strict_from x [] h = tt
-strict_from x (y ∷ ys) h = (h 0 (omega arith), strict_from y ys (strict_rest x (y ∷ ys) h))
-
-pub other_counts : (y j : ℕ) → y ≢ j → ◌≡◌ {A = ℕ} (cond (eqb y j) 1 0) 0
-other_counts y j n = grind (arith, nat_tests)
-
-count_none : (j x : ℕ) (ys : List ℕ) → StrictFrom x ys → j ≤ x → count_by (λ i. eqb i j) ys ≡ 0
-count_none j x [] h l = refl
-count_none j x (y ∷ ys) h l =
-    let step = sum_by-cons (λ (i : ℕ). cond (eqb i j) 1 0) y ys in
-    let above = h.0 in
-    let here = other_counts y j (omega arith) in
-    let rest = count_none j y ys h.1 (omega arith) in
-    omega (arith, step, here, rest)
-
--- in a strictly rising list a number counts once or not at all
-pub count_any : (j : ℕ) (xs : List ℕ) → IsStrictlyIncreasing xs → count_by (λ i. eqb i j) xs ≡ cond (list_any (λ i. eqb i j) xs) 1 0
-count_any j [] h = refl
-count_any j (x ∷ xs) h =
-    let step = sum_by-cons (λ (i : ℕ). cond (eqb i j) 1 0) x xs in
-    elim (cases_eq x j) [
-      | inl e ↦ let t : eqb x j ≡ true = grind (arith, nat_tests) in
-          let none = count_none j x xs (strict_from x xs h) (omega arith) in
-          let here : ◌≡◌ {A = ℕ} (cond (eqb x j) 1 0) 1 = ap (λ (b : Bool). cond b 1 0) t in
-          let one : ◌≡◌ {A = ℕ} (count_by (λ i. eqb i j) (x ∷ xs)) 1 = omega (arith, step, none, here) in
-          one ∙ ap (λ (b : Bool). cond (b || list_any (λ i. eqb i j) xs) 1 0) (sym t)
-      | inr n ↦ let t : eqb x j ≡ false = grind (arith, nat_tests) in
-          let here : ◌≡◌ {A = ℕ} (cond (eqb x j) 1 0) 0 = ap (λ (b : Bool). cond b 1 0) t in
-          let rest = count_any j xs (strict_rest x xs h) in
-          let same : count_by (λ i. eqb i j) (x ∷ xs) ≡ cond (list_any (λ i. eqb i j) xs) 1 0 = omega (arith, step, rest, here) in
-          same ∙ ap (λ (b : Bool). cond (b || list_any (λ i. eqb i j) xs) 1 0) (sym t)
-    ]
-
--- the maps of the one graph of a model
-pub graph_maps : (m : ModelParts) → IsSmallForm m → GraphMapsFit (length m.vars) (graph_at m 0) (maps_in m.maps 0)
-graph_maps m form = form.model.fits.maps.each 0 (omega (arith, form.one_graph))
-
-mapped_rise : (m : ModelParts) (a : ℕ) → IsSmallForm m → IsStrictlyIncreasing (mapped_vars m.maps 0 a)
-mapped_rise m a form =
-    elim (cases_lt a (length (maps_in m.maps 0))) [
-      | inl l ↦ let fits : MapFits (length m.vars) (mapped_vars m.maps 0 a) = (graph_maps m form).each a [] l in (λ k b. fits.ascend k 0 b)
-      | inr l ↦ let none : mapped_vars m.maps 0 a ≡ [] = get_or_past (maps_in m.maps 0) a [] l in
-          subst (λ (vs : List ℕ). IsStrictlyIncreasing vs) (sym none) (λ k b. absurd (omega arith))
-    ]
-
-pub are_maps : (m : ModelParts) → IsSmallForm m → AreMaps (length m.vars) (maps_in m.maps 0)
-are_maps m form =
-    All-weaker (MapFits (length m.vars)) (λ vs. All (λ j. j < length m.vars) vs) (λ vs fits. fits.each) (maps_in m.maps 0) (graph_maps m form).each
-
--- what a walk uses, by the maps of its arcs
-pub uses_same : (m : ModelParts) (j : ℕ) (arcs : List ℕ) → IsSmallForm m → uses_in m.maps j 0 arcs ≡ uses_by (maps_in m.maps 0) j arcs
-uses_same m j arcs form =
-    let each = λ (a : ℕ). count_any j (mapped_vars m.maps 0 a) (mapped_rise m a form) in
-    let le = sum_by-le-sum_by (λ (a : ℕ). cond (is_mapped m.maps j 0 a) 1 0) (λ (a : ℕ). count_by (λ i. eqb i j) (mapped_vars m.maps 0 a)) arcs (λ a. omega (arith, each a)) in
-    let ge = sum_by-le-sum_by (λ (a : ℕ). count_by (λ i. eqb i j) (mapped_vars m.maps 0 a)) (λ (a : ℕ). cond (is_mapped m.maps j 0 a) 1 0) arcs (λ a. omega (arith, each a)) in
-    omega (arith, le, ge)
-
-pub uses_few : (m : ModelParts) (j : ℕ) (arcs : List ℕ) → IsSmallForm m → uses_by (maps_in m.maps 0) j arcs ≤ length arcs
-uses_few m j arcs form = omega (arith, uses_same m j arcs form, count_by-le-length (is_mapped m.maps j 0) arcs)
-
--- the arcs of a walk have maps
-pub walk_has_maps : (m : ModelParts) (walks : List (List ℕ)) (i : ℕ) → IsSmallForm m → IsWalkList (graph_at m 0) walks → i < length walks → All (λ a. a < length (maps_in m.maps 0)) (get_or walks i [])
-walk_has_maps m walks i form list l =
-    let g = graph_at m 0 in
-    let walk = list.feasible i [] l in
-    let maps = (graph_maps m form).arcs in
-    let below = leads_below g g.ends.source (get_or walks i []) g.ends.sink walk.walk in
-    subst (λ (n : ℕ). All (λ a. a < n) (get_or walks i [])) (sym maps) below
-
--- the value of a variable when one walk more is chosen
-pub value_of-push : (m : ModelParts) (walks : List (List ℕ)) (xs : List ℕ) (i j : ℕ) → IsSmallForm m → value_of m (plan_of walks (xs ++ i ∷ [])) j ≡ value_of m (plan_of walks xs) j + uses_by (maps_in m.maps 0) j (get_or walks i [])
-value_of-push m walks xs i j form =
-    omega (arith, quantity-push (uses_in m.maps j) walks xs i, uses_same m j (get_or walks i []) form)
-
--- the paths of the plan of a selection
-pub selected_path : (m : ModelParts) (walks : List (List ℕ)) (xs : List ℕ) → IsSmallForm m → IsWalkList (graph_at m 0) walks → All (λ i. i < length walks) xs → EachBelow (length (plan_of walks xs)) (λ k. IsPath m (taken_at (plan_of walks xs) k))
-selected_path m walks xs form list numbers k l =
-    let len = length-map xs (taken_once walks) in
-    let within : k < length xs = omega (arith, len) in
-    let at : taken_at (plan_of walks xs) k ≡ taken_once walks (get_or xs k 0) = get_or-map (taken_once walks) xs k 0 _ within in
-    subst (IsPath m) (sym at) (record {
-      graph = omega (arith, form.one_graph);
+-- one list of totals after a walk more, and before it
+all_push : (n : ℕ) (f : ℕ → ℕ → List ℕ → ℕ) (walks : List ListedWalk) (xs : List ℕ) (i : ℕ) (more : ℕ → ℕ) (old new : List ℕ) → ((k : ℕ) → more k ≡ f k (walk_at walks i).graph (walk_at walks i).arcs) → AreAll n (λ k. quantity (f k) (plan_of walks xs)) old → GrowsBy more old new → AreAll n (λ k. quantity (f k) (plan_of walks (xs ++ i ∷ []))) new
+all_push n f walks xs i more old new is h g =
+    let count = h.count in
+    let longer = g.count in
+    record {
       count = omega arith;
-      walk = list.feasible (get_or xs k 0) [] (numbers k 0 within);
-    })
-
-pub cost_at-same : (m : ModelParts) (walks : List (List ℕ)) (xs values : List ℕ) → AreValuesOf m (plan_of walks xs) values → cost_at m.vars values ≡ cost_of m (plan_of walks xs)
-cost_at-same m walks xs values h =
-    sum_below-same (length m.vars) (λ j. (var_at m.vars j).cost *ℤ pos (slice_index values j)) (λ j. (var_at m.vars j).cost *ℤ pos (value_of m (plan_of walks xs) j))
-    (λ j l. ap (λ (n : ℕ). (var_at m.vars j).cost *ℤ pos n) (h.each j l))
-
-row_same : (m : ModelParts) (walks : List (List ℕ)) (xs values : List ℕ) (i : ℕ) → IsSmallForm m → i < length m.rows → AreValuesOf m (plan_of walks xs) values → terms_sum_at values (row_at m.rows i).terms ≡ row_sum m (plan_of walks xs) (row_at m.rows i).terms
-row_same m walks xs values i form l h =
-    let row = row_at m.rows i in
-    let fits : RowFits (length m.vars) row = form.model.fits.rows.each i _ l in
-    sum_below-same (length row.terms) (λ k. (term_at row.terms k).coef *ℤ pos (slice_index values (term_at row.terms k).var)) (λ k. (term_at row.terms k).coef *ℤ pos (value_of m (plan_of walks xs) (term_at row.terms k).var))
-    (λ k b. ap (λ (n : ℕ). (term_at row.terms k).coef *ℤ pos n) (h.each (term_at row.terms k).var (fits.each k _ b).var))
-
--- a selection whose values pass is a solution, and the other way round
-pub solves : (m : ModelParts) (walks : List (List ℕ)) (xs values : List ℕ) → IsSmallForm m → IsWalkList (graph_at m 0) walks → IsSelection m walks xs → AreValuesOf m (plan_of walks xs) values → AreNotAbove m.vars values → ValuesSolve m (length xs) values → IsSolution m (plan_of walks xs)
-solves m walks xs values form list chosen h not_above passes =
-    let plan = plan_of walks xs in
-    let paths = paths_of-plan_of walks xs in
-    record {
-      paths = selected_path m walks xs form list chosen.numbers;
-      counts = λ g l. let e : 0 ≡ g = omega (arith, form.one_graph) in
-          subst (CountFits m.graphs plan) e (omega (arith, paths, passes.enough), omega (arith, paths, chosen.few));
-      sets = λ s l. absurd (omega (arith, form.no_sets));
-      vars = λ j l. subst (λ (n : ℕ). ((var_at m.vars j).low ≤ℤ (pos n)) × ((pos n) ≤ℤ (var_at m.vars j).high)) (h.each j l) (passes.not_below j l, not_above j l);
-      rows = λ i l. subst (IsBetween (row_at m.rows i).low (row_at m.rows i).high) (row_same m walks xs values i form l h) (passes.rows i l);
+      each = λ k l. omega (arith, g.each k (omega arith), h.each k l, is k, quantity-push (f k) walks xs i);
     }
 
-pub passes_if_solves : (m : ModelParts) (walks : List (List ℕ)) (xs values : List ℕ) → IsSmallForm m → AreValuesOf m (plan_of walks xs) values → IsSolution m (plan_of walks xs) → ValuesSolve m (length xs) values
-passes_if_solves m walks xs values form h s =
-    let paths = paths_of-plan_of walks xs in
-    let count = s.counts 0 (omega (arith, form.one_graph)) in
+all_pop : (n : ℕ) (f : ℕ → ℕ → List ℕ → ℕ) (walks : List ListedWalk) (xs : List ℕ) (i : ℕ) (more : ℕ → ℕ) (old new : List ℕ) → ((k : ℕ) → more k ≡ f k (walk_at walks i).graph (walk_at walks i).arcs) → AreAll n (λ k. quantity (f k) (plan_of walks (xs ++ i ∷ []))) old → GrowsBy more new old → AreAll n (λ k. quantity (f k) (plan_of walks xs)) new
+all_pop n f walks xs i more old new is h g =
+    let count = h.count in
+    let longer = g.count in
     record {
-      enough = omega (arith, paths, count.0);
-      not_below = λ j l. subst (λ (n : ℕ). (var_at m.vars j).low ≤ℤ (pos n)) (sym (h.each j l)) (s.vars j l).0;
-      rows = λ i l. subst (IsBetween (row_at m.rows i).low (row_at m.rows i).high) (sym (row_same m walks xs values i form l h)) (s.rows i l);
+      count = omega arith;
+      each = λ k l. omega (arith, g.each k (omega arith), h.each k l, is k, quantity-push (f k) walks xs i);
     }
 
--- plans with the same quantities are solutions alike
-row_kept : (m : ModelParts) (old new : List Taken) (terms : List RowTerm) → KeepsQuantities old new → row_sum m new terms ≡ row_sum m old terms
-row_kept m old new terms keeps =
-    sum_below-same (length terms) (λ k. (term_at terms k).coef *ℤ pos (value_of m new (term_at terms k).var)) (λ k. (term_at terms k).coef *ℤ pos (value_of m old (term_at terms k).var))
-    (λ k l. ap (λ (n : ℕ). (term_at terms k).coef *ℤ pos n) (keeps (uses_in m.maps (term_at terms k).var)))
+-- the totals with a walk more, and with one less
+pub totals_push : (m : ModelParts) (walks : List ListedWalk) (xs : List ℕ) (i : ℕ) (old new : Totals) → IsModel m → IsListed m (walk_at walks i) → AreTotalsOf m (plan_of walks xs) old → AddsWalk (walk_at walks i) old new → AreTotalsOf m (plan_of walks (xs ++ i ∷ [])) new
+totals_push m walks xs i old new model listed h a =
+    let w = walk_at walks i in
+    record {
+      values = all_push (length m.vars) (uses_in m.maps) walks xs i (times_in w.vars) old.values.items new.values.items (λ j. listed_vars m w j model listed) h.values a.values;
+      visits = all_push m.sets (visits_in m.graphs) walks xs i (times_in w.sets) old.visits.items new.visits.items (λ s. listed_sets m w s listed) h.visits a.visits;
+      counts = all_push (length m.graphs) is_of walks xs i (times_in (w.graph ∷ [])) old.counts.items new.counts.items (λ g. graph_times w.graph g w.arcs) h.counts a.counts;
+    }
 
-pub solution_kept : (m : ModelParts) (old new : List Taken) → KeepsQuantities old new → EachBelow (length new) (λ k. IsPath m (taken_at new k)) → IsSolution m old → IsSolution m new
-solution_kept m old new keeps paths s = record {
-  paths = paths;
-  counts = λ g l. subst (λ (n : ℕ). ((graph_in m.graphs g).ends.low ≤ n) × (n ≤ (graph_in m.graphs g).ends.high)) (sym (keeps (is_of g))) (s.counts g l);
-  sets = λ i l. subst (λ (n : ℕ). n ≤ 1) (sym (keeps (visits_in m.graphs i))) (s.sets i l);
-  vars = λ j l. subst (λ (n : ℕ). ((var_at m.vars j).low ≤ℤ (pos n)) × ((pos n) ≤ℤ (var_at m.vars j).high)) (sym (keeps (uses_in m.maps j))) (s.vars j l);
-  rows = λ i l. subst (IsBetween (row_at m.rows i).low (row_at m.rows i).high) (sym (row_kept m old new (row_at m.rows i).terms keeps)) (s.rows i l);
+pub totals_pop : (m : ModelParts) (walks : List ListedWalk) (xs : List ℕ) (i : ℕ) (old new : Totals) → IsModel m → IsListed m (walk_at walks i) → AreTotalsOf m (plan_of walks (xs ++ i ∷ [])) old → AddsWalk (walk_at walks i) new old → AreTotalsOf m (plan_of walks xs) new
+totals_pop m walks xs i old new model listed h a =
+    let w = walk_at walks i in
+    record {
+      values = all_pop (length m.vars) (uses_in m.maps) walks xs i (times_in w.vars) old.values.items new.values.items (λ j. listed_vars m w j model listed) h.values a.values;
+      visits = all_pop m.sets (visits_in m.graphs) walks xs i (times_in w.sets) old.visits.items new.visits.items (λ s. listed_sets m w s listed) h.visits a.visits;
+      counts = all_pop (length m.graphs) is_of walks xs i (times_in (w.graph ∷ [])) old.counts.items new.counts.items (λ g. graph_times w.graph g w.arcs) h.counts a.counts;
+    }
+
+-- the totals of a selection are at least those of its last walk
+at_least : (n : ℕ) (f : ℕ → ℕ → List ℕ → ℕ) (walks : List ListedWalk) (xs : List ℕ) (i : ℕ) (more : ℕ → ℕ) (old : List ℕ) → ((k : ℕ) → more k ≡ f k (walk_at walks i).graph (walk_at walks i).arcs) → AreAll n (λ k. quantity (f k) (plan_of walks (xs ++ i ∷ []))) old → HasAtLeast more old
+at_least n f walks xs i more old is h k l =
+    let count = h.count in
+    omega (arith, h.each k (omega arith), is k, quantity-push (f k) walks xs i)
+
+pub has_walk : (m : ModelParts) (walks : List ListedWalk) (xs : List ℕ) (i : ℕ) (t : Totals) → IsModel m → IsListed m (walk_at walks i) → AreTotalsOf m (plan_of walks (xs ++ i ∷ [])) t → HaveWalk (walk_at walks i) t
+has_walk m walks xs i t model listed h =
+    let w = walk_at walks i in
+    record {
+      values = at_least (length m.vars) (uses_in m.maps) walks xs i (times_in w.vars) t.values.items (λ j. listed_vars m w j model listed) h.values;
+      visits = at_least m.sets (visits_in m.graphs) walks xs i (times_in w.sets) t.visits.items (λ s. listed_sets m w s listed) h.visits;
+      counts = at_least (length m.graphs) is_of walks xs i (times_in (w.graph ∷ [])) t.counts.items (λ g. graph_times w.graph g w.arcs) h.counts;
+    }
+
+-- a selection that goes on by a walk has both
+both : (n : ℕ) (f : ℕ → ℕ → List ℕ → ℕ) (walks : List ListedWalk) (xs : List ℕ) (i : ℕ) (rest : List ℕ) (more : ℕ → ℕ) (old : List ℕ) → ((k : ℕ) → more k ≡ f k (walk_at walks i).graph (walk_at walks i).arcs) → AreAll n (λ k. quantity (f k) (plan_of walks xs)) old → EachBelow n (λ k. slice_index old k + more k ≤ quantity (f k) (plan_of walks ((xs ++ i ∷ []) ++ rest)))
+both n f walks xs i rest more old is h k l =
+    omega (arith, h.each k l, is k, quantity-push (f k) walks xs i, quantity_more (f k) walks (xs ++ i ∷ []) rest)
+
+pub has_both : (m : ModelParts) (walks : List ListedWalk) (xs : List ℕ) (i : ℕ) (rest : List ℕ) (t : Totals) → IsModel m → IsListed m (walk_at walks i) → AreTotalsOf m (plan_of walks xs) t → HasBoth m (plan_of walks ((xs ++ i ∷ []) ++ rest)) t (walk_at walks i)
+has_both m walks xs i rest t model listed h =
+    let w = walk_at walks i in
+    record {
+      values = both (length m.vars) (uses_in m.maps) walks xs i rest (times_in w.vars) t.values.items (λ j. listed_vars m w j model listed) h.values;
+      visits = both m.sets (visits_in m.graphs) walks xs i rest (times_in w.sets) t.visits.items (λ s. listed_sets m w s listed) h.visits;
+      counts = both (length m.graphs) is_of walks xs i rest (times_in (w.graph ∷ [])) t.counts.items (λ g. graph_times w.graph g w.arcs) h.counts;
+    }
+
+-- totals that are the same
+pub totals_same : (m : ModelParts) (plan : List Taken) (old new : Totals) → AreSame old new → AreTotalsOf m plan old → AreTotalsOf m plan new
+totals_same m plan old new s h = record {
+  values = subst (λ (xs : List ℕ). AreAll (length m.vars) (value_of m plan) xs) (sym s.values) h.values;
+  visits = subst (λ (xs : List ℕ). AreAll m.sets (λ k. quantity (visits_in m.graphs k) plan) xs) (sym s.visits) h.visits;
+  counts = subst (λ (xs : List ℕ). AreAll (length m.graphs) (paths_of plan) xs) (sym s.counts) h.counts;
 }
+
+pub limits_same : (m : ModelParts) (old new : Totals) → AreSame old new → AreInLimits m old → AreInLimits m new
+limits_same m old new s h = record {
+  vars = λ j l. subst (λ (xs : List ℕ). (pos (slice_index xs j)) ≤ℤ (var_at m.vars j).high) (sym s.values) (h.vars j l);
+  sets = λ k l. subst (λ (xs : List ℕ). slice_index xs k ≤ 1) (sym s.visits) (h.sets k l);
+  counts = λ g l. subst (λ (xs : List ℕ). slice_index xs g ≤ (graph_at m g).ends.high) (sym s.counts) (h.counts g l);
+}
+
+pub have_sizes : (m : ModelParts) (plan : List Taken) (t : Totals) → AreTotalsOf m plan t → HaveSizes m t
+have_sizes m plan t h = record { values = h.values.count; visits = h.visits.count; counts = h.counts.count }
+
+pub cost_at-same : (m : ModelParts) (plan : List Taken) (t : Totals) → AreTotalsOf m plan t → cost_at m.vars t.values.items ≡ cost_of m plan
+cost_at-same m plan t h =
+    sum_below-same (length m.vars) (λ j. (var_at m.vars j).cost *ℤ pos (slice_index t.values.items j)) (λ j. (var_at m.vars j).cost *ℤ pos (value_of m plan j))
+    (λ j l. ap (λ (n : ℕ). (var_at m.vars j).cost *ℤ pos n) (h.values.each j l))
+
+row_same : (m : ModelParts) (plan : List Taken) (t : Totals) (i : ℕ) → IsModel m → i < length m.rows → AreTotalsOf m plan t → terms_sum_at t.values.items (row_at m.rows i).terms ≡ row_sum m plan (row_at m.rows i).terms
+row_same m plan t i model l h =
+    let row = row_at m.rows i in
+    let fits : RowFits (length m.vars) row = model.fits.rows.each i _ l in
+    sum_below-same (length row.terms) (λ k. (term_at row.terms k).coef *ℤ pos (slice_index t.values.items (term_at row.terms k).var)) (λ k. (term_at row.terms k).coef *ℤ pos (value_of m plan (term_at row.terms k).var))
+    (λ k b. ap (λ (n : ℕ). (term_at row.terms k).coef *ℤ pos n) (h.values.each (term_at row.terms k).var (fits.each k _ b).var))
+
+-- a selection whose totals pass is a solution, and the other way round
+pub solves : (m : ModelParts) (walks : List ListedWalk) (xs : List ℕ) (t : Totals) → IsModel m → ListsAll m walks → IsSelection m walks xs → AreTotalsOf m (plan_of walks xs) t → AreInLimits m t → TotalsSolve m t → IsSolution m (plan_of walks xs)
+solves m walks xs t model list chosen h limits passes =
+    record {
+      paths = selected_path m walks xs list chosen.numbers;
+      counts = λ g l. let is = h.counts.each g l in (omega (arith, is, passes.enough g l), omega (arith, is, limits.counts g l));
+      sets = λ s l. omega (arith, h.visits.each s l, limits.sets s l);
+      vars = λ j l. subst (λ (n : ℕ). ((var_at m.vars j).low ≤ℤ (pos n)) × ((pos n) ≤ℤ (var_at m.vars j).high)) (h.values.each j l) (passes.not_below j l, limits.vars j l);
+      rows = λ i l. subst (IsBetween (row_at m.rows i).low (row_at m.rows i).high) (row_same m (plan_of walks xs) t i model l h) (passes.rows i l);
+    }
+
+pub passes_if_solves : (m : ModelParts) (plan : List Taken) (t : Totals) → IsModel m → AreTotalsOf m plan t → IsSolution m plan → TotalsSolve m t
+passes_if_solves m plan t model h s =
+    record {
+      enough = λ g l. let is = h.counts.each g l in omega (arith, is, (s.counts g l).0);
+      not_below = λ j l. subst (λ (n : ℕ). (var_at m.vars j).low ≤ℤ (pos n)) (sym (h.values.each j l)) (s.vars j l).0;
+      rows = λ i l. subst (IsBetween (row_at m.rows i).low (row_at m.rows i).high) (sym (row_same m plan t i model l h)) (s.rows i l);
+    }

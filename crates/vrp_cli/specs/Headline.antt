@@ -13,6 +13,12 @@ use Rattle.route_model.specs.Tidy.{IsTidy}
 use Rattle.model_text.specs.Lines.{line, path_line}
 use Rattle.model_text.specs.SmallForm.{Spells, SpellsNothing}
 
+-- a tidy plan that is a solution, of which none costs less, and its cost
+pub record IsLeastPlan (m : ModelParts) (cost : ℤ) (plan : List Taken) : Type 0 where
+  pub least : IsLeast m plan
+  pub tidy : IsTidy plan
+  pub costs : cost ≡ cost_of m plan
+
 -- the words that are taken: the one word `solve`
 abbrev pub AreTaken : List (List ℕ) → Type 0
 AreTaken words = words ≡ codes "solve" ∷ []

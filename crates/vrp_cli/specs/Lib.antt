@@ -2,5 +2,6 @@ pub mod Headline
 pub mod Answer
 pub mod Ahead
 pub mod Partial
-pub mod Values
+pub mod Listed
+pub mod Totals
 pub mod Selection

@@ -1,27 +1,34 @@
 -- Selections of walks from a list, and the search for the best one.
-use Rattle.std.specs.Prelude.{◌≡◌, ℕ, ◌+◌, ◌<◌, ◌≤◌, ℤ, ◌≤ℤ◌, List, [], ◌∷◌, length, map, All, Option, None, Some, IfSome, Contains, slice_index, slice_index_or, ◌⊎◌}
+use Rattle.std.specs.Prelude.{◌≡◌, ℕ, ◌+◌, ◌<◌, ◌≤◌, ℤ, ◌≤ℤ◌, List, [], ◌∷◌, length, map, sum_by, All, Option, None, Some, IfSome, ◌⊎◌}
+use Rattle.path_graph.specs.Walk.{GraphParts}
 use Rattle.route_model.specs.declared.plan.Taken.{Taken}
-use Rattle.route_model.specs.Parts.{ModelParts, graph_at, maps_in}
-use Rattle.route_model.specs.First.{EachBelow}
+use Rattle.route_model.specs.Parts.{ModelParts}
 use Rattle.route_model.specs.Quantities.{cost_of}
 use Rattle.route_model.specs.Solution.{IsSolution}
-use Rattle.route_model.specs.Tidy.{KeepsQuantities}
+use Rattle.vrp_cli.specs.declared.search.listed.ListedWalk.{ListedWalk}
+use Rattle.vrp_cli.specs.declared.search.totals.Totals.{Totals}
 use Rattle.vrp_cli.specs.declared.search.choose.Found.{Found}
 use Rattle.vrp_cli.specs.declared.search.choose.Choice.{Choice}
 use Rattle.vrp_cli.specs.Ahead.{IsAhead, work_left}
-use Rattle.vrp_cli.specs.Values.{uses_by, AreValuesOf, AreNotAbove, ValuesSolve, cost_at}
+use Rattle.vrp_cli.specs.Listed.{walk_at}
+use Rattle.vrp_cli.specs.Totals.{AreTotalsOf, AreInLimits, TotalsSolve, cost_at}
 
 -- the plan of a selection takes each chosen walk once, and again where it is chosen again
-abbrev pub taken_once : List (List ℕ) → ℕ → Taken
-taken_once walks i = record { graph = 0; count = 1; arcs = slice_index_or walks i [] }
+abbrev pub taken_once : List ListedWalk → ℕ → Taken
+taken_once walks i =
+    record { graph = (walk_at walks i).graph; count = 1; arcs = (walk_at walks i).arcs }
 
-abbrev pub plan_of : List (List ℕ) → List ℕ → List Taken
+abbrev pub plan_of : List ListedWalk → List ℕ → List Taken
 plan_of walks chosen = map (taken_once walks) chosen
 
+-- the most paths that a plan may have
+abbrev pub most_paths : List GraphParts → ℕ
+most_paths graphs = sum_by (λ g. g.ends.high) graphs
+
 -- numbers of walks, of which there are no more than paths
-pub record IsSelection (m : ModelParts) (walks : List (List ℕ)) (chosen : List ℕ) : Type 0 where
+pub record IsSelection (m : ModelParts) (walks : List ListedWalk) (chosen : List ℕ) : Type 0 where
   pub numbers : All (λ i. i < length walks) chosen
-  pub few : length chosen ≤ (graph_at m 0).ends.high
+  pub few : length chosen ≤ most_paths m.graphs
 
 -- the numbers do not fall
 abbrev pub IsRisingFrom : ℕ → List ℕ → Type 0
@@ -29,7 +36,7 @@ IsRisingFrom a [] = Unit {0}
 IsRisingFrom a (b ∷ rest) = (a ≤ b) × IsRisingFrom b rest
 
 -- a solution was found
-pub record IsFound (m : ModelParts) (walks : List (List ℕ)) (found : Found) : Type 0 where
+pub record IsFound (m : ModelParts) (walks : List ListedWalk) (found : Found) : Type 0 where
   pub selection : IsSelection m walks found.chosen
   pub solution : IsSolution m (plan_of walks found.chosen)
   pub costs : found.cost ≡ cost_of m (plan_of walks found.chosen)
@@ -40,27 +47,27 @@ IsAtMost None cost = ⊥
 IsAtMost (Some found) cost = found.cost ≤ℤ cost
 
 -- each rising selection that is a solution costs no less than the best so far, or is still to come
-pub record IsChoice (m : ModelParts) (walks : List (List ℕ)) (chosen : List ℕ) (next : ℕ)
-    (values : List ℕ) (best : Option Found) : Type 0 where
+pub record IsChoice (m : ModelParts) (walks : List ListedWalk) (chosen : List ℕ) (next : ℕ)
+    (totals : Totals) (best : Option Found) : Type 0 where
   pub selection : IsSelection m walks chosen
   pub next_within : next ≤ length walks
-  pub values_are : AreValuesOf m (plan_of walks chosen) values
-  pub not_above : AreNotAbove m.vars values
+  pub totals_are : AreTotalsOf m (plan_of walks chosen) totals
+  pub in_limits : AreInLimits m totals
   pub found : IfSome best (IsFound m walks)
   pub covered : (xs : List ℕ) → IsRisingFrom 0 xs → IsSelection m walks xs
       → IsSolution m (plan_of walks xs)
       → IsAtMost best (cost_of m (plan_of walks xs)) ⊎ IsAhead chosen next xs
 
 -- the search stands there, and how much is left of it
-abbrev pub IsChoiceOf : ModelParts → List (List ℕ) → Choice → Type 0
-IsChoiceOf m walks c = IsChoice m walks c.chosen.items c.next c.values.items c.best
+abbrev pub IsChoiceOf : ModelParts → List ListedWalk → Choice → Type 0
+IsChoiceOf m walks c = IsChoice m walks c.chosen.items c.next c.totals c.best
 
-abbrev pub choice_left : ModelParts → List (List ℕ) → Choice → ℕ
+abbrev pub choice_left : ModelParts → List ListedWalk → Choice → ℕ
 choice_left m walks c =
-    work_left (length walks) ((graph_at m 0).ends.high + 1) c.chosen.items c.next
+    work_left (length walks) (most_paths m.graphs + 1) c.chosen.items c.next
 
 -- the best of all rising selections
-pub record IsBest (m : ModelParts) (walks : List (List ℕ)) (best : Option Found) : Type 0 where
+pub record IsBest (m : ModelParts) (walks : List ListedWalk) (best : Option Found) : Type 0 where
   pub found : IfSome best (IsFound m walks)
   pub least : (xs : List ℕ) → IsRisingFrom 0 xs → IsSelection m walks xs
       → IsSolution m (plan_of walks xs) → IsAtMost best (cost_of m (plan_of walks xs))
@@ -69,29 +76,13 @@ pub record IsBest (m : ModelParts) (walks : List (List ℕ)) (best : Option Foun
 pub record Considers (m : ModelParts) (old new : Choice) : Type 0 where
   pub chosen : new.chosen ≡ old.chosen
   pub next : new.next ≡ old.next
-  pub values : new.values ≡ old.values
+  pub totals : new.totals ≡ old.totals
   pub best : (new.best ≡ old.best)
-      ⊎ (ValuesSolve m (length old.chosen.items) old.values.items
+      ⊎ (TotalsSolve m old.totals
       × (new.best ≡ Some (record {
-        cost = cost_at m.vars old.values.items;
+        cost = cost_at m.vars old.totals.values.items;
         chosen = old.chosen.items;
       })))
-  pub considered : ValuesSolve m (length old.chosen.items) old.values.items
-      → IsAtMost new.best (cost_at m.vars old.values.items)
+  pub considered : TotalsSolve m old.totals
+      → IsAtMost new.best (cost_at m.vars old.totals.values.items)
   pub kept : (cost : ℤ) → IsAtMost old.best cost → IsAtMost new.best cost
-
--- the new values are the old ones and what a walk uses
-pub record AddsWalk (m : ModelParts) (walks : List (List ℕ)) (i : ℕ)
-    (old new : List ℕ) : Type 0 where
-  pub before : length old ≡ length m.vars
-  pub after : length new ≡ length m.vars
-  pub each : EachBelow (length m.vars) (λ j.
-      let uses = uses_by (maps_in m.maps 0) j (slice_index_or walks i []) in
-      slice_index new j ≡ slice_index old j + uses)
-
--- each path takes a walk of the list, and the plan has the quantities of the chosen walks
-pub record IsMerged (walks : List (List ℕ)) (chosen : List ℕ) (plan : List Taken) : Type 0 where
-  pub walks_of : All (λ t. (t.graph ≡ 0) × (1 ≤ t.count) × Contains walks t.arcs) plan
-  pub few : length plan ≤ length chosen
-  pub counts : All (λ t. t.count ≤ length chosen) plan
-  pub keeps : KeepsQuantities (plan_of walks chosen) plan

@@ -1,4 +1,5 @@
-//! The program's one call: it reads a model, solves it by a plain search, and writes the answer.
+//! The program's one call: it reads a model, solves it by a plain search, and writes the answer. A second call takes
+//! a model that is built.
 #![tactic(auto)]
 
 mod answer;
@@ -7,3 +8,4 @@ mod search;
 mod solve;
 
 pub use run::{Status, run_vrp};
+pub use search::{Best, least_plan};

@@ -1,5 +1,9 @@
 mod checks;
 mod choose;
+mod limits;
+mod listed;
+mod rows;
+mod totals;
 mod walks;
 
-pub(crate) use choose::least_plan;
+pub use choose::{Best, least_plan};

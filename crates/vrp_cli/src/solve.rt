@@ -10,7 +10,7 @@ use crate::answer::Answer;
 use crate::search::least_plan;
 use model_text::{LineWriter, ReadError, TextFault, read_model};
 use path_graph::NoMemory;
-use route_model::{Plan, Taken, tidy};
+use route_model::{Plan, Taken};
 use std::alloc::Global;
 
 /// What `solve` answers to an input.
@@ -25,8 +25,7 @@ pub(crate) fn solve(alloc: Global, input: &[u8]) -> Result<Answer, NoMemory>
     let Some(best) = least_plan(alloc, &model)? else {
         return Ok(Answer::Infeasible);
     };
-    let plan = tidy(alloc, &best.plan)?;
-    Ok(Answer::Optimal(plan_text(alloc, best.cost, &plan)?))
+    Ok(Answer::Optimal(plan_text(alloc, best.cost, &best.plan)?))
 }
 
 /// `optimal COST` and the path lines of a plan.

@@ -4,7 +4,11 @@
 #[cfg(test)]
 mod answers;
 #[cfg(test)]
+mod building;
+#[cfg(test)]
 mod calls;
+#[cfg(test)]
+mod least;
 #[cfg(test)]
 mod plans;
 #[cfg(test)]

@@ -1,26 +1,26 @@
-ghost use Rattle.std.specs.Prelude.{[], ◌≡◌, ◌↔◌, ◌⊎◌, IsTrue, ℕ, ◌+◌, ◌^◌, ◌<◌, ◌≤◌, ℤ, ◌≤ℤ◌, All, List, length, IfOk, OnOk, IfSome, MatchBool, MatchOption, slice_index, slice_index_or};
-ghost use Rattle.route_model.specs.First.{EachBelow};
-ghost use Rattle.route_model.specs.Parts.{graph_at, maps_in};
-ghost use Rattle.route_model.specs.Quantities.{cost_of};
-ghost use Rattle.route_model.specs.Solution.{IsLeast, HasNoSolution};
-ghost use Rattle.route_model.specs.Tidy.{AreFew};
+ghost use Rattle.std.specs.Prelude.{◌≡◌, ◌↔◌, ◌⊎◌, IsTrue, ◌+◌, ◌^◌, ◌<◌, ◌≤◌, ℤ, ◌≤ℤ◌, All, List, length, IfOk, OnOk, IfSome, MatchBool, MatchOption};
+ghost use Rattle.route_model.specs.Fit.{IsModel};
+ghost use Rattle.route_model.specs.Solution.{HasNoSolution};
 ghost use Rattle.route_model.specs.Verdicts.{IsCounted};
-ghost use Rattle.model_text.specs.SmallForm.{IsSmallForm};
-ghost use Rattle.vrp_cli.specs.Partial.{IsWalkList};
-ghost use Rattle.vrp_cli.specs.Values.{uses_by, HasAtLeast, AreNotAbove, UsedAreNotAbove, ValuesSolve};
-ghost use Rattle.vrp_cli.specs.Selection.{IsFound, IsAtMost, IsChoiceOf, choice_left, IsBest, Considers, AddsWalk, IsMerged};
+ghost use Rattle.vrp_cli.specs.declared.search.listed.ListedWalk.{ListedWalk};
+ghost use Rattle.vrp_cli.specs.Listed.{AllConsume, ListsAll};
+ghost use Rattle.vrp_cli.specs.Totals.{HaveSizes, AreInLimits};
+ghost use Rattle.vrp_cli.specs.Selection.{most_paths, IsAtMost, IsChoiceOf, choice_left, IsBest, Considers, plan_of};
+ghost use Rattle.vrp_cli.specs.Headline.{IsLeastPlan};
 
-use crate::search::checks::{add_walk, are_above, cost, remove_walk, rows_hold, walk_fits};
-use crate::search::walks::list_walks;
+use crate::search::checks::cost;
+use crate::search::limits::{is_solution, take};
+use crate::search::listed::{ListedWalk, list_all};
+use crate::search::totals::{Totals, no_totals, remove_walk};
 use path_graph::{List, NoMemory};
-use route_model::{Model, Plan, Taken};
+use route_model::{Model, Plan, Taken, path_total, tidy};
 use std::alloc::Global;
 
-/// A plan of least cost, and what it costs.
+/// A plan, and what it costs.
 #[derive(Drop)]
-pub(crate) struct Best {
-    pub(crate) cost: i64,
-    pub(crate) plan: Plan,
+pub struct Best {
+    pub cost: i64,
+    pub plan: Plan,
 }
 
 /// A solution that was found: what it costs, and the numbers of its walks.
@@ -32,31 +32,13 @@ struct Found {
 
 /// A depth-first search through selections: lists of numbers of walks that don't fall.
 ///
-/// `values` has the values of the variables under the walks that are chosen.
+/// `totals` has what the walks that are chosen use, visit and count.
 #[derive(Drop)]
 struct Choice {
     chosen: Vec<usize>,
     next: usize,
-    values: Vec<u64>,
+    totals: Totals,
     best: Option<Found>,
-}
-
-/// Whether the chosen walks are a solution. No variable is above its box.
-fn is_solution(model: &Model, choice: &Choice) -> bool
-    requires form { IsSmallForm model.now }
-    requires values { length choice.now.values.items ≡ length model.now.vars }
-    requires not_above { AreNotAbove model.now.vars choice.now.values.items }
-    ensures { IsTrue result
-        ↔ ValuesSolve model.now (length choice.now.chosen.items) choice.now.values.items }
-{
-    let low = model.graphs.at(0).ends().low;
-    if choice.chosen.len() < low as usize {
-        return false;
-    }
-    if !rows_hold(model.rows.as_slice(), choice.values.as_slice()) {
-        return false;
-    }
-    are_above(model.vars.as_slice(), choice.values.as_slice())
 }
 
 /// Whether a cost is less than that of the best solution so far.
@@ -72,15 +54,15 @@ fn is_better(best: &Option<Found>, cost: i64) -> bool
 
 /// Keeps the chosen walks if they are a better solution than the best so far.
 fn consider(alloc: Global, model: &Model, choice: &mut Choice) -> Result<(), NoMemory>
-    requires form { IsSmallForm model.now }
-    requires values { length choice.old.values.items ≡ length model.now.vars }
-    requires not_above { AreNotAbove model.now.vars choice.old.values.items }
+    requires model { IsModel model.now }
+    requires sizes { HaveSizes model.now choice.old.totals }
+    requires limits { AreInLimits model.now choice.old.totals }
     ensures { OnOk result (Considers model.now choice.old choice.new) }
 {
-    if !is_solution(model, choice) {
+    if !is_solution(model, &choice.totals) {
         return Ok(());
     }
-    let cost = cost(model.vars.as_slice(), choice.values.as_slice());
+    let cost = cost(model.vars.as_slice(), choice.totals.values.as_slice());
     if !is_better(&choice.best, cost) {
         return Ok(());
     }
@@ -91,91 +73,39 @@ fn consider(alloc: Global, model: &Model, choice: &mut Choice) -> Result<(), NoM
 
 /// The search before its first step, with no walk chosen.
 fn start(alloc: Global, model: &Model) -> Result<Choice, NoMemory>
-    requires form { IsSmallForm model.now }
-    ensures { IfOk result (λ c. (walks : List (List ℕ)) → IsWalkList (graph_at model.now 0) walks
+    requires model { IsModel model.now }
+    ensures { IfOk result (λ c. (walks : List ListedWalk) → ListsAll model.now walks
         → IsChoiceOf model.now walks c) }
 {
     let mut choice = Choice {
         chosen: Vec::new(alloc),
         next: 0,
-        values: vec![in alloc; 0; model.vars.len()]?,
+        totals: no_totals(alloc, model)?,
         best: None,
     };
     consider(alloc, model, &mut choice)?;
     Ok(choice)
 }
 
-/// Adds what a walk uses to the values of the variables.
-fn add(model: &Model, walks: &List<List<u32>>, i: usize, values: &mut Vec<u64>)
-    requires form { IsSmallForm model.now }
-    requires walks { IsWalkList (graph_at model.now 0) walks.now }
-    requires i { i < length walks.now }
-    requires values { length values.old.items ≡ length model.now.vars }
-    requires not_above { AreNotAbove model.now.vars values.old.items }
-    ensures { AddsWalk model.now walks.now i values.old.items values.new.items }
-{
-    add_walk(
-        values.as_mut_slice(),
-        model.maps.at(0),
-        walks.at(i).as_slice(),
-    );
-}
-
-/// Takes what a walk uses from the values of the variables.
-fn remove(model: &Model, walks: &List<List<u32>>, i: usize, values: &mut Vec<u64>)
-    requires form { IsSmallForm model.now }
-    requires walks { IsWalkList (graph_at model.now 0) walks.now }
-    requires i { i < length walks.now }
-    requires values { length values.old.items ≡ length model.now.vars }
-    requires enough { let walk = slice_index_or walks.now i [] in
-        HasAtLeast (λ j. uses_by (maps_in model.now.maps 0) j walk) values.old.items }
-    ensures { AddsWalk model.now walks.now i values.new.items values.old.items }
-{
-    remove_walk(
-        values.as_mut_slice(),
-        model.maps.at(0),
-        walks.at(i).as_slice(),
-    );
-}
-
-/// Whether no variable that a walk uses is above its box.
-fn fits(model: &Model, walks: &List<List<u32>>, i: usize, values: &[u64]) -> bool
-    requires form { IsSmallForm model.now }
-    requires walks { IsWalkList (graph_at model.now 0) walks.now }
-    requires i { i < length walks.now }
-    requires values { length values.now ≡ length model.now.vars }
-    ensures { IsTrue result ↔ UsedAreNotAbove model.now.vars values.now
-        (maps_in model.now.maps 0) (slice_index_or walks.now i []) }
-{
-    walk_fits(
-        model.vars.as_slice(),
-        values,
-        model.maps.at(0),
-        walks.at(i).as_slice(),
-    )
-}
-
-/// Chooses the next walk, unless a variable is then above its box.
+/// Chooses the next walk, unless no solution has it beside those that are chosen.
 fn try_next(
     alloc: Global,
     model: &Model,
-    walks: &List<List<u32>>,
+    walks: &List<ListedWalk>,
     choice: &mut Choice,
 ) -> Result<(), NoMemory>
-    requires form { IsSmallForm model.now }
-    requires walks { IsWalkList (graph_at model.now 0) walks.now }
+    requires model { IsModel model.now }
+    requires walks { ListsAll model.now walks.now }
     requires choice { IsChoiceOf model.now walks.now choice.old }
     requires next { choice.old.next < length walks.now }
-    requires room { length choice.old.chosen.items < (graph_at model.now 0).ends.high }
+    requires room { length choice.old.chosen.items < most_paths model.now.graphs }
     requires short { length walks.now < 2 ^ 64 }
     ensures choice { OnOk result (IsChoiceOf model.now walks.now choice.new) }
     ensures less { OnOk result
         (choice_left model.now walks.now choice.new < choice_left model.now walks.now choice.old) }
 {
     let next = choice.next;
-    add(model, walks, next, &mut choice.values);
-    if !fits(model, walks, next, choice.values.as_slice()) {
-        remove(model, walks, next, &mut choice.values);
+    if !take(model, walks.at(next), &mut choice.totals) {
         choice.next = next + 1;
         return Ok(());
     }
@@ -184,13 +114,13 @@ fn try_next(
 }
 
 /// Takes back the walk that was chosen last, if there is one, to go on by the walk after it.
-fn go_back(model: &Model, walks: &List<List<u32>>, choice: &mut Choice) -> bool
-    requires form { IsSmallForm model.now }
-    requires walks { IsWalkList (graph_at model.now 0) walks.now }
+fn go_back(model: &Model, walks: &List<ListedWalk>, choice: &mut Choice) -> bool
+    requires model { IsModel model.now }
+    requires walks { ListsAll model.now walks.now }
     requires choice { IsChoiceOf model.now walks.now choice.old }
     requires short { length walks.now < 2 ^ 64 }
     requires end { (length walks.now ≤ choice.old.next)
-        ⊎ ((graph_at model.now 0).ends.high ≤ length choice.old.chosen.items) }
+        ⊎ (most_paths model.now.graphs ≤ length choice.old.chosen.items) }
     ensures { MatchBool result
         (IsChoiceOf model.now walks.now choice.new
         × (choice_left model.now walks.now choice.new < choice_left model.now walks.now choice.old))
@@ -199,99 +129,89 @@ fn go_back(model: &Model, walks: &List<List<u32>>, choice: &mut Choice) -> bool
     let Some(last) = choice.chosen.pop() else {
         return false;
     };
-    remove(model, walks, last, &mut choice.values);
+    remove_walk(walks.at(last), &mut choice.totals);
     choice.next = last + 1;
     true
 }
 
-/// Makes a step of the search, unless it is done.
+/// Makes a step of the search, unless it is done. There may be `most` paths.
 fn step(
     alloc: Global,
     model: &Model,
-    walks: &List<List<u32>>,
+    most: u64,
+    walks: &List<ListedWalk>,
     choice: &mut Choice,
 ) -> Result<bool, NoMemory>
-    requires form { IsSmallForm model.now }
-    requires walks { IsWalkList (graph_at model.now 0) walks.now }
+    requires model { IsModel model.now }
+    requires most { most ≡ most_paths model.now.graphs }
+    requires walks { ListsAll model.now walks.now }
     requires choice { IsChoiceOf model.now walks.now choice.old }
     ensures { IfOk result (λ more. MatchBool more
         (IsChoiceOf model.now walks.now choice.new
         × (choice_left model.now walks.now choice.new < choice_left model.now walks.now choice.old))
         (IsBest model.now walks.now choice.new.best)) }
 {
-    let most = model.graphs.at(0).ends().high;
-    if choice.next < walks.len() && choice.chosen.len() < most as usize {
+    if choice.next < walks.len() && (choice.chosen.len() as u64) < most {
         try_next(alloc, model, walks, choice)?;
         return Ok(true);
     }
     Ok(go_back(model, walks, choice))
 }
 
-/// The best of all selections.
+/// The best of all selections. There may be `most` paths.
 fn best_choice(
     alloc: Global,
     model: &Model,
-    walks: &List<List<u32>>,
+    most: u64,
+    walks: &List<ListedWalk>,
 ) -> Result<Option<Found>, NoMemory>
-    requires form { IsSmallForm model.now }
-    requires walks { IsWalkList (graph_at model.now 0) walks.now }
+    requires model { IsModel model.now }
+    requires most { most ≡ most_paths model.now.graphs }
+    requires walks { ListsAll model.now walks.now }
     ensures { IfOk result (IsBest model.now walks.now) }
 {
     let mut choice = start(alloc, model)?;
-    while step(alloc, model, walks, &mut choice)? {}
+    while step(alloc, model, most, walks, &mut choice)? {}
     Ok(choice.best)
 }
 
-/// Whether the number at the next place is the same.
-fn goes_on(chosen: &[usize], place: usize) -> bool
-    requires { place < length chosen.now }
-    ensures { IsTrue result ↔ ((place + 1 < length chosen.now)
-        × (slice_index chosen.now (place + 1) ≡ slice_index chosen.now place)) }
+/// The plan of chosen walks, one path for each.
+fn plan_of(alloc: Global, walks: &List<ListedWalk>, chosen: &[usize]) -> Result<Plan, NoMemory>
+    requires { All (λ i. i < length walks.now) chosen.now }
+    ensures { IfOk result (λ plan. plan.paths ≡ plan_of walks.now chosen.now) }
 {
-    place + 1 < chosen.len() && chosen[place + 1] == chosen[place]
-}
-
-/// The plan of chosen walks. A walk that is chosen several times in a row is one path with a count.
-fn plan_of(alloc: Global, walks: &List<List<u32>>, chosen: &[usize]) -> Result<Plan, NoMemory>
-    requires numbers { All (λ i. i < length walks.now) chosen.now }
-    requires few { length chosen.now ≤ 4096 }
-    ensures { IfOk result (λ plan. IsMerged walks.now chosen.now plan.paths) }
-{
-    let mut paths = List::new(alloc);
-    let mut count = 0;
-    for (place, i) in chosen.iter().enumerate() {
-        count += 1;
-        if goes_on(chosen, place) {
-            continue;
-        }
-        let arcs = walks.at(*i).copy(alloc)?;
+    let mut paths = Vec::new(alloc);
+    for i in chosen {
+        let walk = walks.at(*i);
+        let arcs = walk.arcs.copy(alloc)?;
         paths.push(Taken {
-            graph: 0,
-            count,
+            graph: walk.graph,
+            count: 1,
             arcs,
         })?;
-        count = 0;
     }
-    Ok(Plan { paths })
+    Ok(Plan {
+        paths: List::from_vec(paths),
+    })
 }
 
-/// A solution of least cost, if there is a solution.
+/// A least plan, tidy, with its cost: none exactly where the model has no solution.
 ///
 /// The time grows with the number of feasible walks to the power of the paths that there may be.
-pub(crate) fn least_plan(alloc: Global, model: &Model) -> Result<Option<Best>, NoMemory>
-    requires { IsSmallForm model.now }
-    ensures least { IfOk result (λ found. MatchOption found (HasNoSolution model.now) (λ best.
-        IsLeast model.now best.plan.paths × (best.cost ≡ cost_of model.now best.plan.paths))) }
-    ensures counted { IfOk result (λ found. IfSome found (λ best.
-        IsCounted best.plan.paths × AreFew best.plan.paths)) }
+pub fn least_plan(alloc: Global, model: &Model) -> Result<Option<Best>, NoMemory>
+    requires { AllConsume model.now }
+    ensures least { IfOk result (λ found. MatchOption found (HasNoSolution model.now)
+        (λ best. IsLeastPlan model.now best.cost best.plan.paths)) }
+    ensures counted { IfOk result (λ found. IfSome found (λ best. IsCounted best.plan.paths)) }
 {
-    let walks = list_walks(alloc, model.graphs.at(0))?;
-    let Some(found) = best_choice(alloc, model, &walks)? else {
+    let most = path_total(model.graphs.as_slice());
+    let walks = list_all(alloc, model)?;
+    let Some(found) = best_choice(alloc, model, most, &walks)? else {
         return Ok(None);
     };
     let plan = plan_of(alloc, &walks, found.chosen.as_slice())?;
     Ok(Some(Best {
         cost: found.cost,
-        plan,
+        plan: tidy(alloc, &plan)?,
     }))
 }

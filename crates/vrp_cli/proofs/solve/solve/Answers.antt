@@ -1,15 +1,18 @@
 use Rattle.std.proofs.Common.{ap, ◌∙◌, ℤ, FitsSigned, w64, rules}
 use Rattle.std.proofs.lemmas.Int.{to_z-of_z}
 use Rattle.vrp_cli.specs.Headline.{optimal_text}
-use Rattle.vrp_cli.proofs.EndingLemmas.{tells_least, refusal_told}
+use Rattle.vrp_cli.proofs.EndingLemmas.{small_consumes, tells_least, refusal_told}
 use Rattle.vrp_cli.proofs.solve.solve.Goals as goal
+
+pub least_plan-requires : goal.least_plan-requires
+least_plan-requires c = small_consumes c.in-Ok.model c.in-Ok.ensures.ok.form
 
 pub returns : goal.returns
 returns c =
     let best = rw c.in-Some.is at c.in_ok-best.ensures.least in
     let fits : FitsSigned w64 c.in-Some.best.cost = search rules in
-    let told = c.in_ok-plan_text.ensures ∙ ap (λ (z : ℤ). optimal_text z c.in_ok-plan.plan.paths) (to_z-of_z w64 c.in-Some.best.cost fits) in
-    tells_least c.args.input.now c.in_ok-plan_text.field-0 c.in-Ok.model c.in-Some.best.plan.paths c.in_ok-plan.plan.paths c.in-Some.best.cost c.in-Ok.ensures.ok best c.in_ok-plan.ensures.tidy c.in_ok-plan.ensures.quantities c.in_ok-plan.ensures.walks told
+    let told = c.in_ok-plan_text.ensures ∙ ap (λ (z : ℤ). optimal_text z c.in-Some.best.plan.paths) (to_z-of_z w64 c.in-Some.best.cost fits) in
+    tells_least c.args.input.now c.in_ok-plan_text.field-0 c.in-Ok.model c.in-Some.best.plan.paths c.in-Some.best.cost c.in-Ok.ensures.ok best told
 
 pub returns-in-Err-Text : goal.returns-in-Err-Text
 returns-in-Err-Text c =

@@ -1,11 +1,11 @@
-use Rattle.std.proofs.Common.{rules}
-use Rattle.std.specs.Int.{w64}
-use mir.Val.{to_z, of_z}
-use Rattle.vrp_cli.proofs.CheckLemmas.{cost_within}
+use Rattle.std.proofs.Common.{◌≡◌, ℤ, pos, ◌*ℤ◌, w64, to_z, of_z, rules, subst, sym}
+use Rattle.path_graph.specs.Within.{IsWithin}
+use Rattle.route_model.specs.Fit.{cost_range_of}
+use Rattle.route_model.proofs.Bounds.{var_cost_within}
 use Rattle.vrp_cli.proofs.search.checks.var_cost.Goals as goal
 
-pub returns-clause-low : goal.returns-clause-low
-returns-clause-low c = (cost_within c.args.var.now c.args.value (to_z w64 (of_z w64 c.price.result)) c.requires.value (search rules)).0
-
-pub returns-clause-high : goal.returns-clause-high
-returns-clause-high c = (cost_within c.args.var.now c.args.value (to_z w64 (of_z w64 c.price.result)) c.requires.value (search rules)).1
+pub returns-clause-small : goal.returns-clause-small
+returns-clause-small c =
+    let v = c.args.var.now in
+    let same : to_z w64 (of_z w64 c.product.result) ≡ v.cost *ℤ pos c.args.value = search rules in
+    subst (λ (z : ℤ). IsWithin (cost_range_of v) z) (sym same) (var_cost_within v c.args.value c.requires.var c.requires.value)

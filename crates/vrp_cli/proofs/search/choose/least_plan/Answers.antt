@@ -1,39 +1,59 @@
-use Rattle.std.proofs.Common.{◌≡◌, ℕ, List, Option, IfSome, subst, sym, ◌∙◌, ap, rules}
-use Rattle.path_graph.specs.Walk.{GraphParts}
-use Rattle.route_model.specs.Parts.{ModelParts, graph_at}
+use Rattle.std.proofs.Common.{◌≡◌, ℕ, ◌<◌, ◌≤◌, ℤ, List, Option, IfSome, All, length, subst, sym, ◌∙◌, ap, rules, FitsSigned, w64}
+use Rattle.std.proofs.lemmas.Int.{to_z-of_z}
+use Rattle.route_model.specs.declared.plan.Taken.{Taken}
+use Rattle.route_model.specs.Fit.{IsModel}
+use Rattle.route_model.specs.Parts.{ModelParts}
+use Rattle.route_model.specs.Tidy.{AreFew, KeepsQuantities, AllComeFrom}
+use Rattle.route_model.proofs.SolutionLemmas.{solution_counted}
 use Rattle.vrp_cli.specs.declared.search.choose.Found.{Found}
-use Rattle.vrp_cli.specs.Partial.{IsWalkList}
-use Rattle.vrp_cli.specs.Selection.{IsFound, IsMerged}
-use Rattle.vrp_cli.proofs.ExchangeLemmas.{none_solves, best_is_least, is_short, are_few}
-use Rattle.vrp_cli.proofs.MergeLemmas.{merged_least, merged_counted}
+use Rattle.vrp_cli.specs.Headline.{IsLeastPlan}
+use Rattle.vrp_cli.specs.Selection.{plan_of, IsFound}
+use Rattle.vrp_cli.proofs.ExchangeLemmas.{none_solves, tidied_least, are_few}
 use Rattle.vrp_cli.proofs.search.choose.least_plan.Goals as goal
+
+pub list_all-requires-clause-model : goal.list_all-requires-clause-model
+list_all-requires-clause-model c = subst (λ (m : ModelParts). IsModel m) c.model.view_is c.model.invariant
+
+pub best_choice-requires-clause-model : goal.best_choice-requires-clause-model
+best_choice-requires-clause-model c = subst (λ (m : ModelParts). IsModel m) c.model.view_is c.model.invariant
 
 pub returns-in_default-clause-least : goal.returns-in_default-clause-least
 returns-in_default-clause-least c =
+    none_solves c.args.model.now c.in_ok-walks.walks c.in_ok-found.field-0 c.in_ok-walks.ensures c.in_default.is c.in_ok-found.ensures
+
+pub plan_of-requires : goal.plan_of-requires
+plan_of-requires c =
+    let walks = c.in_ok-walks.walks in
+    let is : IsFound c.args.model.now walks c.in-Some.found = subst (λ (b : Option Found). IfSome b (IsFound c.args.model.now walks)) c.in-Some.is c.in_ok-found.ensures.found in
+    subst (λ (xs : List ℕ). All (λ i. i < length walks) xs) (sym c.as_slice-2.ensures) is.selection.numbers
+
+pub tidy-requires : goal.tidy-requires
+tidy-requires c =
     let m = c.args.model.now in
-    let graph : graph_at m 0 ≡ c.at.result.now = sym (ap (λ (x : ModelParts). graph_at x 0) c.model.view_is) ∙ c.at.ensures _ in
-    let list = subst (λ (g : GraphParts). IsWalkList g c.in_ok-walks.walks) (sym graph) c.in_ok-walks.ensures in
-    none_solves m c.in_ok-walks.walks c.in_ok-found.field-0 c.requires list c.in_default.is c.in_ok-found.ensures
+    let walks = c.in_ok-walks.walks in
+    let model = subst (λ (x : ModelParts). IsModel x) c.model.view_is c.model.invariant in
+    let is : IsFound m walks c.in-Some.found = subst (λ (b : Option Found). IfSome b (IsFound m walks)) c.in-Some.is c.in_ok-found.ensures.found in
+    let made = c.in_ok-plan.ensures ∙ ap (λ (xs : List ℕ). plan_of walks xs) c.as_slice-2.ensures in
+    subst (λ (ps : List Taken). AreFew ps) (sym made) (are_few m walks c.in-Some.found.chosen model is.selection)
 
 pub returns-clause-least : goal.returns-clause-least
 returns-clause-least c =
     let m = c.args.model.now in
     let walks = c.in_ok-walks.walks in
     let found = c.in-Some.found in
-    let graph : graph_at m 0 ≡ c.at.result.now = sym (ap (λ (x : ModelParts). graph_at x 0) c.model.view_is) ∙ c.at.ensures _ in
-    let list = subst (λ (g : GraphParts). IsWalkList g walks) (sym graph) c.in_ok-walks.ensures in
-    let made : IsMerged walks found.chosen c.in_ok-plan.plan.paths = subst (λ (xs : List ℕ). IsMerged walks xs c.in_ok-plan.plan.paths) c.as_slice.ensures c.in_ok-plan.ensures in
-    let best = best_is_least m walks c.in_ok-found.field-0 found c.requires list c.in-Some.is c.in_ok-found.ensures in
-    let least = merged_least m walks found.chosen c.in_ok-plan.plan.paths found.cost c.requires list made best in
-    let costs = least.1 in
-    (least.0, search rules)
+    let made = c.in_ok-plan.ensures ∙ ap (λ (xs : List ℕ). plan_of walks xs) c.as_slice-2.ensures in
+    let tidied = c.in_ok-tidy.ensures in
+    let least = tidied_least m walks c.in_ok-found.field-0 found c.in_ok-plan.plan.paths c.in_ok-tidy.field-0.paths c.in_ok-walks.ensures c.in-Some.is c.in_ok-found.ensures made tidied.tidy tidied.quantities tidied.walks in
+    let fits : FitsSigned w64 found.cost = search rules in
+    subst (λ (z : ℤ). IsLeastPlan m z c.in_ok-tidy.field-0.paths) (sym (to_z-of_z w64 found.cost fits)) least
 
 pub returns-clause-counted : goal.returns-clause-counted
 returns-clause-counted c =
     let m = c.args.model.now in
     let walks = c.in_ok-walks.walks in
     let found = c.in-Some.found in
-    let made : IsMerged walks found.chosen c.in_ok-plan.plan.paths = subst (λ (xs : List ℕ). IsMerged walks xs c.in_ok-plan.plan.paths) c.as_slice.ensures c.in_ok-plan.ensures in
-    let is : IsFound m walks found = subst (λ (b : Option Found). IfSome b (IsFound m walks)) c.in-Some.is c.in_ok-found.ensures.found in
-    let short = is_short m walks found.chosen c.requires is.selection in
-    merged_counted m walks found.chosen c.in_ok-plan.plan.paths short made (are_few walks found.chosen short)
+    let model = subst (λ (x : ModelParts). IsModel x) c.model.view_is c.model.invariant in
+    let made = c.in_ok-plan.ensures ∙ ap (λ (xs : List ℕ). plan_of walks xs) c.as_slice-2.ensures in
+    let tidied = c.in_ok-tidy.ensures in
+    let least = tidied_least m walks c.in_ok-found.field-0 found c.in_ok-plan.plan.paths c.in_ok-tidy.field-0.paths c.in_ok-walks.ensures c.in-Some.is c.in_ok-found.ensures made tidied.tidy tidied.quantities tidied.walks in
+    solution_counted m c.in_ok-tidy.field-0.paths model.fits least.least.solution

@@ -1,23 +1,18 @@
-use Rattle.std.proofs.Common.{◌≡◌, ◌+◌, List, [], get_or, length, subst, sym, ◌∙◌, refl, arith}
+use Rattle.std.proofs.Common.{◌≡◌, ◌++◌, ◌∷◌, [], List, take, get_or, sym, ◌∙◌, ap}
+use Rattle.std.proofs.lemmas.List.{map_more}
 use Rattle.route_model.specs.declared.plan.Taken.{Taken}
-use Rattle.vrp_cli.proofs.MergeLemmas.{Merges, merges_on, merges_push, merged}
+use Rattle.vrp_cli.specs.declared.search.listed.ListedWalk.{ListedWalk}
+use Rattle.vrp_cli.specs.Listed.{walk_at}
+use Rattle.vrp_cli.specs.Selection.{taken_once, plan_of}
+use Rattle.vrp_cli.proofs.ListedLemmas.{no_walk}
 use Rattle.vrp_cli.proofs.search.choose.plan_of.Goals as goal
 
-pub loop-place-preserved : goal.loop-place-preserved
-loop-place-preserved c =
+pub loop-i-preserved : goal.loop-i-preserved
+loop-i-preserved c =
     let walks = c.args.walks.now in
-    let chosen = c.args.chosen.now in
-    let place = c.loop-place.place in
-    let arcs : c.in_ok-arcs.arcs ≡ get_or walks (get_or chosen place 0) [] = c.in_ok-arcs.ensures ∙ sym (c.at.ensures []) in
-    subst (λ (ps : List Taken). Merges walks chosen (place + 1) 0 ps) (sym c.in_ok-push.ensures.ok)
-    (merges_push walks chosen place c.loop-place.count c.loop-place.paths c.in_ok-arcs.arcs c.loop-place.invariant c.loop-place-test.true c.requires.numbers arcs)
-
-pub loop-place-preserved-then-goes_on : goal.loop-place-preserved-then-goes_on
-loop-place-preserved-then-goes_on c =
-    let next = c.if-goes_on.ensures.0 refl in
-    merges_on c.args.walks.now c.args.chosen.now c.loop-place.place c.loop-place.count c.loop-place.paths c.loop-place.invariant next.0 next.1
-
-pub returns : goal.returns
-returns c =
-    let end : c.loop-place.place ≡ length c.args.chosen.now = omega arith in
-    merged c.args.walks.now c.args.chosen.now c.loop-place.place c.loop-place.count c.loop-place.paths c.loop-place.invariant end
+    let i = get_or c.args.chosen.now c.loop-i.i-index 0 in
+    let walk : c.at-walk.result.now ≡ walk_at walks i = sym (c.at-walk.ensures no_walk) in
+    let graph = ap (λ (w : ListedWalk). w.graph) walk in
+    let arcs : c.in_ok-arcs.arcs ≡ (walk_at walks i).arcs = c.in_ok-arcs.ensures ∙ ap (λ (w : ListedWalk). w.arcs) walk in
+    let taken : ◌≡◌ {A = Taken} (record { graph = c.at-walk.result.now.graph; count = 1; arcs = c.in_ok-arcs.arcs }) (taken_once walks i) = cc in
+    c.in_ok-push.ensures.items ∙ (ap (λ (ps : List Taken). ps ++ (record { graph = c.at-walk.result.now.graph; count = 1; arcs = c.in_ok-arcs.arcs }) ∷ []) c.loop-i.invariant ∙ (ap (λ (t : Taken). plan_of walks (take c.loop-i.i-index c.args.chosen.now) ++ t ∷ []) taken ∙ sym (map_more (taken_once walks) c.args.chosen.now c.loop-i.i-index 0 c.loop-i-test.true)))

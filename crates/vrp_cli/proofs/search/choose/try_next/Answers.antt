@@ -1,26 +1,28 @@
-use Rattle.std.proofs.Common.{◌≡◌, ℕ, List, [], length, get_or, refl, sym, subst, false, true}
+use Rattle.std.proofs.Common.{◌≡◌, length, refl, sym, subst}
 use Rattle.std.proofs.lemmas.Result.{on_ok_weaker}
-use Rattle.route_model.specs.Parts.{maps_in}
+use Rattle.vrp_cli.specs.declared.search.listed.ListedWalk.{ListedWalk}
 use Rattle.vrp_cli.specs.declared.search.choose.Choice.{Choice}
-use Rattle.vrp_cli.specs.Values.{UsedAreNotAbove}
+use Rattle.vrp_cli.specs.Listed.{IsListed, walk_at}
+use Rattle.vrp_cli.specs.Totals.{AddsWalk, IsCut}
 use Rattle.vrp_cli.proofs.AheadLemmas.{left_skips}
-use Rattle.vrp_cli.proofs.ChoiceLemmas.{choice_skip, chosen_next, less_chosen, all_fit, used_fit}
+use Rattle.vrp_cli.proofs.ListedLemmas.{no_walk}
+use Rattle.vrp_cli.proofs.ChoiceLemmas.{choice_skip, chosen_next, less_chosen}
 use Rattle.vrp_cli.proofs.search.choose.try_next.Goals as goal
 
-pub returns-then-not-fits-clause-choice : goal.returns-then-not-fits-clause-choice
-returns-then-not-fits-clause-choice c =
+pub take-requires-clause-walk : goal.take-requires-clause-walk
+take-requires-clause-walk c = subst (λ (w : ListedWalk). IsListed c.args.model.now w) (c.at.ensures no_walk) (c.requires.walks.listed c.args.choice.now.next _ c.requires.next)
+
+pub returns-then-not-take-clause-choice : goal.returns-then-not-take-clause-choice
+returns-then-not-take-clause-choice c =
     let m = c.args.model.now in
     let walks = c.args.walks.now in
     let old = c.args.choice.now in
-    choice_skip m walks old.chosen.items old.next old.values.items c.add.new.values.items c.remove.new.values.items old.best c.requires.form c.requires.choice c.requires.next c.add.ensures
-    (λ h.
-    let used = used_fit m walks old.next c.add.new.values.items c.requires.form c.requires.walks c.requires.next h in
-    let no : false ≡ true = c.if-not-fits.ensures.1 (subst (λ (vs : List ℕ). UsedAreNotAbove m.vars vs (maps_in m.maps 0) (get_or walks old.next [])) (sym c.as_slice.ensures.value) used) in
-    cc)
-    c.remove.ensures
+    let no = c.if-not-take.ensures in
+    let cut = subst (λ (w : ListedWalk). IsCut m old.totals w) (sym (c.at.ensures no_walk)) no.0 in
+    choice_skip m walks old.chosen.items old.next old.totals c.take.new.totals old.best c.requires.model c.requires.walks c.requires.choice c.requires.next cut no.1
 
-pub returns-then-not-fits-clause-less : goal.returns-then-not-fits-clause-less
-returns-then-not-fits-clause-less c =
+pub returns-then-not-take-clause-less : goal.returns-then-not-take-clause-less
+returns-then-not-take-clause-less c =
     let old = c.args.choice.now in
     left_skips (length c.args.walks.now) _ old.chosen.items old.next c.requires.choice.next_within
 
@@ -29,26 +31,18 @@ returns-clause-choice c =
     let m = c.args.model.now in
     let walks = c.args.walks.now in
     let old = c.args.choice.now in
-    let mid : Choice = record { chosen = c.push.new.self; next = old.next; values = c.add.new.values; best = old.best } in
-    let used = subst (λ (vs : List ℕ). UsedAreNotAbove m.vars vs (maps_in m.maps 0) (get_or walks old.next [])) c.as_slice.ensures.value (c.if-not-fits.ensures.0 refl) in
-    let not_above = all_fit m walks old.next old.values.items mid.values.items c.requires.choice.not_above c.add.ensures used in
+    let mid : Choice = record { chosen = c.push.new.self; next = old.next; totals = c.take.new.totals; best = old.best } in
+    let took = c.if-not-take.ensures in
+    let adds = subst (λ (w : ListedWalk). AddsWalk w old.totals c.take.new.totals) (sym (c.at.ensures no_walk)) took.0 in
     on_ok_weaker c.consider.result
-    (λ e. chosen_next m walks old mid c.consider.new.choice c.requires.form c.requires.walks c.requires.choice c.requires.next c.requires.room c.in_ok-push.ensures.items refl refl c.add.ensures not_above e)
+    (λ e. chosen_next m walks old mid c.consider.new.choice c.requires.model c.requires.walks c.requires.choice c.requires.next c.requires.room c.in_ok-push.ensures.items refl refl adds took.1 e)
     c.consider.ensures
-
-pub consider-requires-clause-not_above : goal.consider-requires-clause-not_above
-consider-requires-clause-not_above c =
-    let m = c.args.model.now in
-    let walks = c.args.walks.now in
-    let old = c.args.choice.now in
-    let used = subst (λ (vs : List ℕ). UsedAreNotAbove m.vars vs (maps_in m.maps 0) (get_or walks old.next [])) c.as_slice.ensures.value (c.if-not-fits.ensures.0 refl) in
-    all_fit m walks old.next old.values.items c.add.new.values.items c.requires.choice.not_above c.add.ensures used
 
 pub returns-clause-less : goal.returns-clause-less
 returns-clause-less c =
     let m = c.args.model.now in
     let old = c.args.choice.now in
-    let mid : Choice = record { chosen = c.push.new.self; next = old.next; values = c.add.new.values; best = old.best } in
+    let mid : Choice = record { chosen = c.push.new.self; next = old.next; totals = c.take.new.totals; best = old.best } in
     on_ok_weaker c.consider.result
     (λ e. less_chosen m c.args.walks.now old mid c.consider.new.choice c.requires.choice c.requires.room c.in_ok-push.ensures.items e)
     c.consider.ensures
