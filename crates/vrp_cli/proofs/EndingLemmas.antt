@@ -7,7 +7,6 @@ use Rattle.std.proofs.lemmas.Slice.Eq.{bytes_eq-Decides}
 use Rattle.std.proofs.KnownBytes.{Consumes-whole}
 use Rattle.vrp_io.specs.Bytes.{TookAll}
 use Rattle.route_model.specs.declared.plan.Taken.{Taken}
-use Rattle.path_graph.specs.Within.{ConsumesBeforeSink}
 use Rattle.route_model.specs.Parts.{ModelParts, graph_at}
 use Rattle.route_model.specs.Quantities.{cost_of}
 use Rattle.model_text.specs.declared.kind.TextFault.{TextFault}
@@ -18,7 +17,6 @@ use Rattle.model_text.specs.SmallForm.{IsSmallForm, Spells, SpellsNothing}
 use Rattle.vrp_cli.specs.declared.answer.Answer.{Answer}
 use Rattle.vrp_cli.specs.declared.answer.Answer.TheVariants.{Optimal, Infeasible, Words, Model, ReadFailed, Memory, TooLong}
 use Rattle.vrp_cli.specs.Headline.{IsLeastPlan, AreTaken, input_limit, optimal_text, TellsLeast, SpellsInfeasible, ReadWhole, Answers, optimal, infeasible, model_refused}
-use Rattle.vrp_cli.specs.Listed.{AllConsume}
 use Rattle.vrp_cli.specs.Answer.{status_of, text_of, AnswersInput}
 
 -- one word that is compared with another
@@ -44,12 +42,6 @@ tells_least input text m plan cost spelled best told =
       tidy = best.tidy;
       told = told ∙ ap (λ (z : ℤ). optimal_text z plan) best.costs;
     }
-
--- the one graph of a model of the small form consumes
-pub small_consumes : (m : ModelParts) → IsSmallForm m → AllConsume m
-small_consumes m form g l =
-    let e : 0 ≡ g = omega (arith, form.one_graph) in
-    subst (λ (k : ℕ). ConsumesBeforeSink (graph_at m k).ends (graph_at m k).arcs) e form.consumes
 
 read_whole : (old new : Option (List ℕ)) (faults_old faults_new : ℕ) (input : List ℕ) (P : List ℕ → Type 0) → TookAll old new input → faults_new ≡ faults_old → length input ≤ input_limit → P input → ReadWhole old new faults_old faults_new P
 read_whole old new faults_old faults_new input P took kept few holds =

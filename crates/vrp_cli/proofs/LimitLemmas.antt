@@ -63,7 +63,7 @@ have_room m t model sizes h =
     record {
       values = λ k d l. let small = values_small m t.values.items model sizes.values h.vars k d l in omega (arith, small);
       visits = All-from_get_or (λ n. n < 2 ^ 63) t.visits.items 0 (λ k l. let small = h.sets k (omega arith) in omega (arith, small));
-      counts = All-from_get_or (λ n. n < 2 ^ 63) t.counts.items 0 (λ k l. let within : k < length m.graphs = omega arith in let small = h.counts k within in let few = (graph_fits m k model within).graph.ends_fit.most_paths in omega (arith, small, few));
+      counts = All-from_get_or (λ n. n < 2 ^ 63) t.counts.items 0 (λ k l. let within : k < length m.graphs = omega arith in let small = h.counts k within in let few = (graph_fits m k model within).graph.fits.ends_fit.most_paths in omega (arith, small, few));
     }
 
 pub have_used : (m : ModelParts) (w : ListedWalk) (t : Totals) → IsModel m → IsListed m w → HaveSizes m t → HaveUsed w t

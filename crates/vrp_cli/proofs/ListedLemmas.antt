@@ -244,4 +244,4 @@ listed_sets_below m w model h =
     subst (λ (xs : List ℕ). All (λ s. s < m.sets) xs) (sym h.sets)
     (all_flat (λ s. s < m.sets) (λ a. option_to_list (vertex_at g.vertices (arc_at g.arcs a).head).set) w.arcs (λ k l.
     let a = get_or w.arcs k 0 in
-    all_first (λ s. s < m.sets) (vertex_at g.vertices (arc_at g.arcs a).head).set (fits.declared (arc_at g.arcs a).head _ (fits.graph.each_arc a _ (there k 0 l)).head)))
+    all_first (λ s. s < m.sets) (vertex_at g.vertices (arc_at g.arcs a).head).set (fits.declared (arc_at g.arcs a).head _ (fits.graph.fits.each_arc a _ (there k 0 l)).head)))

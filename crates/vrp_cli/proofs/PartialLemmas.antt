@@ -9,8 +9,9 @@ use Rattle.std.proofs.lemmas.List.Elements.{All-nil, All-cons, All-push, All-wea
 use Rattle.path_graph.specs.declared.parts.Values.{Values}
 use Rattle.path_graph.specs.Fit.{int_at, window_at, vertex_at}
 use Rattle.path_graph.specs.Walk.{GraphParts, IsGraph, arc_at, Leads, Passes, over_of, root_of, IsFeasibleWalk}
-use Rattle.path_graph.specs.Within.{AreWithin, ConsumesBeforeSink}
-use Rattle.path_graph.proofs.WalkLemmas.{moved_is_within, root_is_within, small_values}
+use Rattle.path_graph.specs.Within.{AreWithin}
+use Rattle.path_graph.proofs.WalkLemmas.{passes_split, passes_join, within_at_end, end_within, root_is_within}
+use Rattle.path_graph.proofs.LevelLemmas.{walk_short}
 use Rattle.vrp_cli.specs.declared.search.walks.Listing.{Listing}
 use Rattle.vrp_cli.specs.Ahead.{IsAhead, work_left, walk_depth}
 use Rattle.vrp_cli.specs.Partial.{end_of, values_at_end, values_along, IsPartialWalk, GoesOn, IsListing, IsListingOf, IsWalkList, TakesBack}
@@ -26,16 +27,6 @@ leads_split g v (a ∷ xs) ys w h =
 pub leads_join : (g : GraphParts) (v : ℕ) (xs ys : List ℕ) (w : ℕ) → Leads g v xs (end_of g v xs) → Leads g (end_of g v xs) ys w → Leads g v (xs ++ ys) w
 leads_join g v [] ys w h k = k
 leads_join g v (a ∷ xs) ys w h k = (h.0, h.1, leads_join g (arc_at g.arcs a).head xs ys w h.2 k)
-
-pub passes_split : (g : GraphParts) (value : Values) (xs ys : List ℕ) → Passes g value (xs ++ ys) → Passes g value xs × Passes g (values_at_end g value xs) ys
-passes_split g value [] ys h = (tt, h)
-passes_split g value (a ∷ xs) ys h =
-    let r = passes_split g (over_of g value a) xs ys h.1 in
-    ((h.0, r.0), r.1)
-
-pub passes_join : (g : GraphParts) (value : Values) (xs ys : List ℕ) → Passes g value xs → Passes g (values_at_end g value xs) ys → Passes g value (xs ++ ys)
-passes_join g value [] ys h k = k
-passes_join g value (a ∷ xs) ys h k = (h.0, passes_join g (over_of g value a) xs ys h.1 k)
 
 -- one arc more
 pub end_of-push : (g : GraphParts) (v : ℕ) (xs : List ℕ) (a : ℕ) → end_of g v (xs ++ a ∷ []) ≡ (arc_at g.arcs a).head
@@ -63,45 +54,10 @@ pub leads_below : (g : GraphParts) (v : ℕ) (xs : List ℕ) (w : ℕ) → Leads
 leads_below g v [] w h = All-nil (λ a. a < length g.arcs)
 leads_below g v (a ∷ xs) w h = All-cons (λ b. b < length g.arcs) a xs h.0 (leads_below g (arc_at g.arcs a).head xs w h.2)
 
--- the values lie in the windows
-pub within_at_end : (g : GraphParts) (v : ℕ) (value : Values) (xs : List ℕ) (w : ℕ) → Leads g v xs w → Passes g value xs → AreWithin (vertex_at g.vertices v).windows value → AreWithin (vertex_at g.vertices w).windows (values_at_end g value xs)
-within_at_end g v value [] w h p k = subst (λ (u : ℕ). AreWithin (vertex_at g.vertices u).windows value) h k
-within_at_end g v value (a ∷ xs) w h p k =
-    within_at_end g (arc_at g.arcs a).head (over_of g value a) xs w h.2 p.1
-    (moved_is_within value.at (arc_at g.arcs a).needs (vertex_at g.vertices (arc_at g.arcs a).head).windows p.0)
-
-pub end_within : (g : GraphParts) (v : ℕ) (xs : List ℕ) (w : ℕ) → IsGraph g → v < length g.vertices → Leads g v xs w → w < length g.vertices
-end_within g v [] w fit l h = subst (λ (u : ℕ). u < length g.vertices) h l
-end_within g v (a ∷ xs) w fit l h = end_within g (arc_at g.arcs a).head xs w fit (fit.each_arc a _ h.0).head h.2
-
--- the greater of two is no less than the second
-max_above : (x y : ℤ) → y ≤ℤ (int_max x y)
-max_above x y = omega (arith, ints, clamps)
-
--- the first value grows by each arc that does not enter the sink
-pub deep_at_end : (g : GraphParts) (v : ℕ) (value : Values) (xs : List ℕ) (w : ℕ) → IsGraph g → ConsumesBeforeSink g.ends g.arcs → Leads g v xs w → w ≢ g.ends.sink → (int_at value.at 0 +ℤ pos (length xs)) ≤ℤ (int_at (values_at_end g value xs).at 0)
-deep_at_end g v value [] w fit c h n = omega (arith, ints)
-deep_at_end g v value (a ∷ xs) w fit c h n =
-    let deeper = deep_at_end g (arc_at g.arcs a).head (over_of g value a) xs w fit c h.2 n in
-    let grows = c a _ h.0 (not_sink xs h.2) in
-    let above = max_above (window_at (vertex_at g.vertices (arc_at g.arcs a).head).windows 0).low (int_at value.at 0 +ℤ int_at (arc_at g.arcs a).needs 0) in
-    omega (arith, ints, deeper, grows, above)
-  where
-    not_sink : (ys : List ℕ) → Leads g (arc_at g.arcs a).head ys w → (arc_at g.arcs a).head ≢ g.ends.sink
-    not_sink [] k e = n (sym k ∙ e)
-    not_sink (b ∷ ys) k e = (fit.each_arc b _ k.0).not_out (k.1 ∙ e)
-
 -- a partial walk is not long
-pub not_deep : (g : GraphParts) (arcs : List ℕ) → IsGraph g → ConsumesBeforeSink g.ends g.arcs → IsPartialWalk g arcs → length arcs < walk_depth
+pub not_deep : (g : GraphParts) (arcs : List ℕ) → IsGraph g → IsPartialWalk g arcs → length arcs < walk_depth
 unfolding walk_depth
-not_deep g arcs fit c h =
-    let source = g.ends.source in
-    let end = end_of g source arcs in
-    let root = root_is_within g fit in
-    let deep = deep_at_end g source (root_of g) arcs end fit c h.leads h.before_sink in
-    let low = small_values g source (root_of g) fit fit.ends_fit.source root 0 (omega arith) in
-    let high = small_values g end (values_at_end g (root_of g) arcs) fit (end_within g source arcs end fit fit.ends_fit.source h.leads) (within_at_end g source (root_of g) arcs end h.leads h.passes root) 0 (omega arith) in
-    omega (arith, ints, deep, low.0, high.1)
+not_deep g arcs fit h = walk_short g arcs (end_of g g.ends.source arcs) fit h.leads h.passes
 
 -- what a feasible walk says of the arc after its first ones
 pub record GoesOnBy (g : GraphParts) (arcs : List ℕ) (a : ℕ) (rest : List ℕ) : Type 0 where
@@ -118,15 +74,15 @@ goes_on g arcs a rest w f e =
 -- nothing goes on from the sink
 ends_at_sink : (g : GraphParts) (v : ℕ) (rest : List ℕ) → IsGraph g → v ≡ g.ends.sink → Leads g v rest g.ends.sink → rest ≡ []
 ends_at_sink g v [] fit e h = refl
-ends_at_sink g v (b ∷ rest) fit e h = absurd ((fit.each_arc b _ h.0).not_out (h.1 ∙ e))
+ends_at_sink g v (b ∷ rest) fit e h = absurd ((fit.fits.each_arc b _ h.0).not_out (h.1 ∙ e))
 
 first_ahead : (g : GraphParts) (w : List ℕ) → IsGraph g → IsFeasibleWalk g w → IsAhead [] 0 w
-first_ahead g [] fit f = absurd (fit.ends_fit.different f.walk)
+first_ahead g [] fit f = absurd (fit.fits.ends_fit.different f.walk)
 first_ahead g (b ∷ w) fit f = omega arith
 
 pub listing_start : (g : GraphParts) (values : List Values) → IsGraph g → values ≡ root_of g ∷ [] → IsListing g [] values 0 []
 listing_start g values fit e = record {
-  partial_walk = record { leads = refl; passes = tt; before_sink = fit.ends_fit.different };
+  partial_walk = record { leads = refl; passes = tt; before_sink = fit.fits.ends_fit.different };
   values_of = e;
   next_within = omega arith;
   listed = All-nil (IsFeasibleWalk g);
@@ -224,7 +180,7 @@ listing_back g arcs a values v next walks fit h l =
       partial_walk = record {
         leads = leads.0;
         passes = passes.0;
-        before_sink = λ e. (fit.each_arc a _ leads.1.0).not_out (leads.1.1 ∙ e);
+        before_sink = λ e. (fit.fits.each_arc a _ leads.1.0).not_out (leads.1.1 ∙ e);
       };
       values_of = (same_from_push values (values_along g (root_of g) arcs) v _ (h.values_of ∙ values_along-push g (root_of g) arcs a)).0;
       next_within = let b = leads.1.0 in omega arith;

@@ -15,4 +15,4 @@ work_left n depth (a ∷ chosen) next =
 
 -- more arcs than a partial walk has
 unfoldable pub walk_depth : ℕ
-walk_depth = 200000001
+walk_depth = 2 ^ 40

@@ -3,7 +3,6 @@ use Rattle.std.specs.Prelude.{◌≡◌, ◌≢◌, ℕ, ◌+◌, ◌<◌, List,
 use Rattle.std.specs.Option.{option_to_list}
 use Rattle.path_graph.specs.Fit.{vertex_at}
 use Rattle.path_graph.specs.Walk.{GraphParts, arc_at, IsFeasibleWalk}
-use Rattle.path_graph.specs.Within.{ConsumesBeforeSink}
 use Rattle.route_model.specs.First.{EachBelow}
 use Rattle.route_model.specs.Parts.{ModelParts, graph_at, maps_in}
 use Rattle.vrp_cli.specs.declared.search.listed.ListedWalk.{ListedWalk}
@@ -43,10 +42,6 @@ pub record ListsWalks (m : ModelParts) (n : ℕ) (walks : List ListedWalk) : Typ
 -- the list has each feasible walk of each graph of the model once, and nothing else
 abbrev pub ListsAll : ModelParts → List ListedWalk → Type 0
 ListsAll m walks = ListsWalks m (length m.graphs) walks
-
--- in each graph the arcs that don't enter the sink consume
-abbrev pub AllConsume : ModelParts → Type 0
-AllConsume m = EachBelow (length m.graphs) (λ g. ConsumesBeforeSink (graph_at m g).ends (graph_at m g).arcs)
 
 -- the walks of a graph were put last
 pub record Appends (m : ModelParts) (g : ℕ) (walks : List (List ℕ)) (old new : List ListedWalk) : Type 0 where

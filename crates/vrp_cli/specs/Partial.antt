@@ -2,17 +2,14 @@
 use Rattle.std.specs.Prelude.{◌≡◌, ◌≢◌, ℕ, ◌<◌, ◌≤◌, List, [], ◌∷◌, ◌++◌, ◌+◌, length, All, Contains, ◌⊎◌, slice_index_or}
 use Rattle.path_graph.specs.declared.parts.Values.{Values}
 use Rattle.vrp_cli.specs.declared.search.walks.Listing.{Listing}
+pub use Rattle.path_graph.specs.Walk.{values_at_end}
 use Rattle.path_graph.specs.Walk.{GraphParts, arc_at, Leads, Passes, Takes, over_of, root_of, IsFeasibleWalk}
 use Rattle.vrp_cli.specs.Ahead.{IsAhead, work_left, walk_depth}
 
--- the vertex at which arcs from v end, and the values there
+-- the vertex at which arcs from v end
 abbrev pub end_of : GraphParts → ℕ → List ℕ → ℕ
 end_of g v [] = v
 end_of g v (a ∷ rest) = end_of g (arc_at g.arcs a).head rest
-
-abbrev pub values_at_end : GraphParts → Values → List ℕ → Values
-values_at_end g value [] = value
-values_at_end g value (a ∷ rest) = values_at_end g (over_of g value a) rest
 
 -- the values at each vertex along arcs, the first vertex included
 abbrev pub values_along : GraphParts → Values → List ℕ → List Values

@@ -3,7 +3,7 @@ ghost use Rattle.route_model.specs.Fit.{IsModel};
 ghost use Rattle.route_model.specs.Solution.{HasNoSolution};
 ghost use Rattle.route_model.specs.Verdicts.{IsCounted};
 ghost use Rattle.vrp_cli.specs.declared.search.listed.ListedWalk.{ListedWalk};
-ghost use Rattle.vrp_cli.specs.Listed.{AllConsume, ListsAll};
+ghost use Rattle.vrp_cli.specs.Listed.{ListsAll};
 ghost use Rattle.vrp_cli.specs.Totals.{HaveSizes, AreInLimits};
 ghost use Rattle.vrp_cli.specs.Selection.{most_paths, IsAtMost, IsChoiceOf, choice_left, IsBest, Considers, plan_of};
 ghost use Rattle.vrp_cli.specs.Headline.{IsLeastPlan};
@@ -199,7 +199,6 @@ fn plan_of(alloc: Global, walks: &List<ListedWalk>, chosen: &[usize]) -> Result<
 ///
 /// The time grows with the number of feasible walks to the power of the paths that there may be.
 pub fn least_plan(alloc: Global, model: &Model) -> Result<Option<Best>, NoMemory>
-    requires { AllConsume model.now }
     ensures least { IfOk result (λ found. MatchOption found (HasNoSolution model.now)
         (λ best. IsLeastPlan model.now best.cost best.plan.paths)) }
     ensures counted { IfOk result (λ found. IfSome found (λ best. IsCounted best.plan.paths)) }

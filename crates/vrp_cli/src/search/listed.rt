@@ -4,7 +4,7 @@ ghost use Rattle.path_graph.specs.Fit.{vertex_at};
 ghost use Rattle.path_graph.specs.Walk.{arc_at, IsFeasibleWalk};
 ghost use Rattle.route_model.specs.Fit.{IsModel};
 ghost use Rattle.route_model.specs.Parts.{graph_at};
-ghost use Rattle.vrp_cli.specs.Listed.{vars_along, sets_along, IsListed, ListsAll, AllConsume, Appends};
+ghost use Rattle.vrp_cli.specs.Listed.{vars_along, sets_along, IsListed, ListsAll, Appends};
 
 use crate::search::walks::list_walks;
 use path_graph::{Graph, List, NoMemory};
@@ -101,7 +101,6 @@ fn append(
 /// The time is that of a walk through all partial walks.
 pub(super) fn list_all(alloc: Global, model: &Model) -> Result<List<ListedWalk>, NoMemory>
     requires model { IsModel model.now }
-    requires consumes { AllConsume model.now }
     ensures { IfOk result (ListsAll model.now) }
 {
     let mut all = List::new(alloc);

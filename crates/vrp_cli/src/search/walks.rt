@@ -1,6 +1,5 @@
 ghost use Rattle.std.specs.Prelude.{◌≡◌, ◌<◌, ◌+◌, ◌-◌, ◌^◌, ◌≤◌, [], ◌∷◌, ◌++◌, All, length, IfOk, OnOk, SomeIff, MatchBool, vec_len};
 ghost use Rattle.path_graph.specs.Walk.{IsGraph, root_of, over_of};
-ghost use Rattle.path_graph.specs.Within.{ConsumesBeforeSink};
 ghost use Rattle.vrp_cli.specs.Partial.{end_of, values_at_end, GoesOn, IsListingOf, listing_left, IsWalkList, TakesBack};
 
 use path_graph::{Graph, List, NoMemory, Values, after, root_values};
@@ -91,7 +90,6 @@ fn extend(listing: &mut Listing, values: Values) -> Result<(), NoMemory>
 
 /// Tries the next arc.
 fn try_next(alloc: Global, g: &Graph, listing: &mut Listing) -> Result<(), NoMemory>
-    requires consumes { ConsumesBeforeSink g.now.ends g.now.arcs }
     requires listing { IsListingOf g.now listing.old }
     requires next { listing.old.next < length g.now.arcs }
     ensures listing { OnOk result (IsListingOf g.now listing.new) }
@@ -128,7 +126,6 @@ fn go_back(listing: &mut Listing) -> bool
 /// Makes a step of the search, unless it is done.
 fn step(alloc: Global, g: &Graph, listing: &mut Listing) -> Result<bool, NoMemory>
     requires graph { IsGraph g.now }
-    requires consumes { ConsumesBeforeSink g.now.ends g.now.arcs }
     requires listing { IsListingOf g.now listing.old }
     ensures { IfOk result (λ more. MatchBool more
         (IsListingOf g.now listing.new
@@ -147,7 +144,6 @@ fn step(alloc: Global, g: &Graph, listing: &mut Listing) -> Result<bool, NoMemor
 /// The time is that of a walk through all partial walks.
 pub(super) fn list_walks(alloc: Global, g: &Graph) -> Result<List<List<u32>>, NoMemory>
     requires graph { IsGraph g.now }
-    requires consumes { ConsumesBeforeSink g.now.ends g.now.arcs }
     ensures { IfOk result (IsWalkList g.now) }
 {
     let mut listing = start(alloc, g)?;

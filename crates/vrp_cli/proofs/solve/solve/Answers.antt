@@ -1,11 +1,8 @@
 use Rattle.std.proofs.Common.{ap, ◌∙◌, ℤ, FitsSigned, w64, rules}
 use Rattle.std.proofs.lemmas.Int.{to_z-of_z}
 use Rattle.vrp_cli.specs.Headline.{optimal_text}
-use Rattle.vrp_cli.proofs.EndingLemmas.{small_consumes, tells_least, refusal_told}
+use Rattle.vrp_cli.proofs.EndingLemmas.{tells_least, refusal_told}
 use Rattle.vrp_cli.proofs.solve.solve.Goals as goal
-
-pub least_plan-requires : goal.least_plan-requires
-least_plan-requires c = small_consumes c.in-Ok.model c.in-Ok.ensures.ok.form
 
 pub returns : goal.returns
 returns c =

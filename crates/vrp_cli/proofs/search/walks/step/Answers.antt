@@ -13,7 +13,7 @@ go_back-requires-clause-values c =
 pub go_back-requires-clause-arcs : goal.go_back-requires-clause-arcs
 go_back-requires-clause-arcs c =
     let l = c.args.listing.now in
-    listing_small c.args.g.now l.arcs.items l.values.items l.next l.walks _ c.requires.listing (omega (arith, c.requires.graph.few_arcs))
+    listing_small c.args.g.now l.arcs.items l.values.items l.next l.walks _ c.requires.listing (omega (arith, c.requires.graph.fits.few_arcs))
 
 pub returns : goal.returns
 returns c =

@@ -58,7 +58,7 @@ returns-else-arc-sink-clause-less c =
     let l = c.args.listing.now in
     let m = c.extend.new.listing in
     let n = length g.arcs in
-    let deep = not_deep g l.arcs.items c.ends-sink.ensures.fits c.requires.consumes c.requires.listing.partial_walk in
+    let deep = not_deep g l.arcs.items c.ends-sink.ensures.fits c.requires.listing.partial_walk in
     let less : work_left n walk_depth (l.arcs.items ++ l.next ∷ []) m.next < work_left n walk_depth l.arcs.items l.next = left_deeper n walk_depth l.arcs.items l.next m.next c.requires.listing.next_within deep in
     on_ok_weaker c.extend.result
     (λ p. subst (λ (xs : List ℕ). work_left n walk_depth xs m.next < work_left n walk_depth l.arcs.items l.next) (sym p) less)
