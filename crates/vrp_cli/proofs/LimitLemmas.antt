@@ -19,7 +19,8 @@ use Rattle.route_model.proofs.SolutionLemmas.{between_ends}
 use Rattle.vrp_cli.specs.declared.search.listed.ListedWalk.{ListedWalk}
 use Rattle.vrp_cli.specs.declared.search.totals.Totals.{Totals}
 use Rattle.vrp_cli.specs.Listed.{IsListed}
-use Rattle.vrp_cli.specs.Totals.{times_in, AreTotalsOf, HaveSizes, HaveUsed, HaveRoom, HaveWalk, GrowsBy, AddsWalk, HasBoth, IsCut, AreSame, AreInLimits, IsNotAbove, OthersAreNotAbove, AreNotAboveAmong, AreOnceAmong, RowCanHold, least_term, greatest_term, least_sum, greatest_sum, MayGoOn}
+use Rattle.vrp_cli.specs.Totals.{times_in, AreTotalsOf, HaveSizes, HaveUsed, HaveRoom, HaveWalk, GrowsBy, AddsWalk, AreSame}
+use Rattle.vrp_cli.specs.Limits.{HasBoth, IsCut, AreInLimits, IsNotAbove, OthersAreNotAbove, AreNotAboveAmong, AreOnceAmong, RowCanHold, least_term, greatest_term, least_sum, greatest_sum, MayGoOn}
 use Rattle.vrp_cli.proofs.ListedLemmas.{graph_fits, listed_vars_below, listed_sets_below, other_counts}
 
 var_fits : (m : ModelParts) (j : ℕ) → IsModel m → j < length m.vars → VarFits (var_at m.vars j)

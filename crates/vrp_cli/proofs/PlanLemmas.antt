@@ -13,7 +13,8 @@ use Rattle.route_model.specs.Solution.{IsPath, IsBetween, IsSolution}
 use Rattle.vrp_cli.specs.declared.search.listed.ListedWalk.{ListedWalk}
 use Rattle.vrp_cli.specs.declared.search.totals.Totals.{Totals}
 use Rattle.vrp_cli.specs.Listed.{IsListed, walk_at, ListsAll}
-use Rattle.vrp_cli.specs.Totals.{times_in, AreAll, AreTotalsOf, HaveSizes, GrowsBy, HasAtLeast, HaveWalk, AddsWalk, AreSame, HasBoth, AreInLimits, terms_sum_at, cost_at, TotalsSolve}
+use Rattle.vrp_cli.specs.Totals.{times_in, AreAll, AreTotalsOf, HaveSizes, GrowsBy, HasAtLeast, HaveWalk, AddsWalk, AreSame}
+use Rattle.vrp_cli.specs.Limits.{HasBoth, AreInLimits, terms_sum_at, cost_at, TotalsSolve}
 use Rattle.vrp_cli.specs.Selection.{taken_once, plan_of, most_paths, IsSelection}
 use Rattle.route_model.proofs.SolutionLemmas.{paths_few}
 use Rattle.vrp_cli.proofs.ListedLemmas.{listed_vars, listed_sets, graph_times}
