@@ -1,4 +1,4 @@
-use Rattle.std.proofs.Common.{◌≡◌, ℕ, ◌+◌, ◌*◌, ℤ, w64, FitsSigned, rules, length, ◌∙◌, ap, arith}
+use Rattle.std.proofs.Common.{◌≡◌, ℕ, ◌+◌, ◌*◌, w64, FitsSigned, rules, length, ◌∙◌, ap, arith}
 use Rattle.path_graph.specs.Sums.{sum_below}
 use Rattle.path_graph.proofs.SumLemmas.{signed_loop_step}
 use Rattle.route_model.specs.Parts.{term_at}

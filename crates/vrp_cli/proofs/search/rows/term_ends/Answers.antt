@@ -1,4 +1,4 @@
-use Rattle.std.proofs.Common.{◌≡◌, ◌≤ℤ◌, neg_ℤ, ℤ, pos, w64, to_z, of_z, rules, subst, sym, slice_index, arith}
+use Rattle.std.proofs.Common.{◌≡◌, ℤ, pos, rules, subst, sym, slice_index, arith}
 use Rattle.std.proofs.lemmas.Int.{ints}
 use Rattle.path_graph.specs.Within.{IsWithin}
 use Rattle.route_model.specs.Fit.{VarFits}
