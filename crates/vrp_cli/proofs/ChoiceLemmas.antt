@@ -12,9 +12,10 @@ use Rattle.vrp_cli.specs.declared.search.choose.Found.{Found}
 use Rattle.vrp_cli.specs.declared.search.choose.Choice.{Choice}
 use Rattle.vrp_cli.specs.Ahead.{IsAhead, work_left}
 use Rattle.vrp_cli.specs.Listed.{walk_at, ListsAll}
-use Rattle.vrp_cli.specs.Totals.{AreTotalsOf, AddsWalk, IsCut, AreSame, AreInLimits, TotalsSolve, cost_at}
+use Rattle.vrp_cli.specs.Totals.{AreTotalsOf, AddsWalk, AreSame}
+use Rattle.vrp_cli.specs.Limits.{IsCut, AreInLimits, TotalsSolve, cost_at}
 use Rattle.vrp_cli.specs.Selection.{plan_of, most_paths, IsSelection, IsRisingFrom, IsFound, IsAtMost, IsChoice, IsChoiceOf, choice_left, IsBest, Considers}
-use Rattle.vrp_cli.proofs.AheadLemmas.{GoesOver, ahead_next, ahead_deeper, ahead_longer, ahead_back, left_deeper, left_back, left_skips}
+use Rattle.vrp_cli.proofs.AheadLemmas.{GoesOver, ahead_next, ahead_deeper, ahead_longer, ahead_back, left_deeper, left_back}
 use Rattle.vrp_cli.proofs.LimitLemmas.{limits_less, no_limit_above}
 use Rattle.vrp_cli.proofs.PlanLemmas.{totals_push, totals_pop, totals_same, limits_same, has_both, solves, passes_if_solves, cost_at-same}
 

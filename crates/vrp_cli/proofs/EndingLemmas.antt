@@ -8,7 +8,6 @@ use Rattle.std.proofs.KnownBytes.{Consumes-whole}
 use Rattle.vrp_io.specs.Bytes.{TookAll}
 use Rattle.route_model.specs.declared.plan.Taken.{Taken}
 use Rattle.route_model.specs.Parts.{ModelParts, graph_at}
-use Rattle.route_model.specs.Quantities.{cost_of}
 use Rattle.model_text.specs.declared.kind.TextFault.{TextFault}
 use Rattle.model_text.specs.declared.kind.Kind.TheVariants.{Unbuilt}
 use Rattle.model_text.specs.Kinds.{kind_number, kind_name}

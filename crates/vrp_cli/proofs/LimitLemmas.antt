@@ -1,5 +1,5 @@
 -- Totals and their limits, and why a walk that takes them too far is in no solution.
-use Rattle.std.proofs.Common.{◌≡◌, ℕ, zero, suc, ◌+◌, ◌*◌, ◌<◌, ◌≤◌, ◌^◌, ℤ, pos, negsuc, ◌*ℤ◌, ◌≤ℤ◌, List, [], ◌∷◌, length, get_or, ◌⊎◌, inl, inr, arith, sym, ◌∙◌, ap, subst, refl, All, cond, eqb, slice_index, Option, Some, None, true, false}
+use Rattle.std.proofs.Common.{◌≡◌, ℕ, suc, ◌<◌, ◌≤◌, ◌^◌, ℤ, pos, negsuc, ◌*ℤ◌, ◌≤ℤ◌, List, [], ◌∷◌, length, ◌⊎◌, inl, inr, arith, sym, ◌∙◌, subst, refl, All, cond, eqb, slice_index, Option, Some, None, true, false}
 use Rattle.std.proofs.lemmas.Int.{ints}
 use Rattle.std.specs.Int.{int_min, int_max}
 use Rattle.std.proofs.lemmas.Bool.{cases_eq, cases_lt}
@@ -8,18 +8,18 @@ use Rattle.std.proofs.lemmas.Grind.{same_number_lists}
 use Rattle.std.proofs.lemmas.List.Elements.{All-from_get_or}
 use Rattle.std.proofs.lemmas.List.Sums.{sum_by-cons, count_by-le-length}
 use Rattle.path_graph.proofs.SumLemmas.{sum_below-≤}
-use Rattle.route_model.specs.declared.parts.Row.{Row}
 use Rattle.route_model.specs.declared.parts.RowTerm.{RowTerm}
 use Rattle.route_model.specs.declared.plan.Taken.{Taken}
 use Rattle.route_model.specs.Fit.{IsModel, VarFits, RowFits}
 use Rattle.route_model.specs.Parts.{ModelParts, var_at, row_at, term_at, graph_at}
-use Rattle.route_model.specs.Quantities.{value_of, visits_of, paths_of, row_sum}
+use Rattle.route_model.specs.Quantities.{value_of, row_sum}
 use Rattle.route_model.specs.Solution.{IsSolution, IsBetween}
 use Rattle.route_model.proofs.SolutionLemmas.{between_ends}
 use Rattle.vrp_cli.specs.declared.search.listed.ListedWalk.{ListedWalk}
 use Rattle.vrp_cli.specs.declared.search.totals.Totals.{Totals}
 use Rattle.vrp_cli.specs.Listed.{IsListed}
-use Rattle.vrp_cli.specs.Totals.{times_in, AreTotalsOf, HaveSizes, HaveUsed, HaveRoom, HaveWalk, GrowsBy, AddsWalk, HasBoth, IsCut, AreSame, AreInLimits, IsNotAbove, OthersAreNotAbove, AreNotAboveAmong, AreOnceAmong, RowCanHold, least_term, greatest_term, least_sum, greatest_sum, MayGoOn}
+use Rattle.vrp_cli.specs.Totals.{times_in, AreTotalsOf, HaveSizes, HaveUsed, HaveRoom, HaveWalk, GrowsBy, AddsWalk, AreSame}
+use Rattle.vrp_cli.specs.Limits.{HasBoth, IsCut, AreInLimits, IsNotAbove, OthersAreNotAbove, AreNotAboveAmong, RowCanHold, least_term, greatest_term, least_sum, greatest_sum, MayGoOn}
 use Rattle.vrp_cli.proofs.ListedLemmas.{graph_fits, listed_vars_below, listed_sets_below, other_counts}
 
 var_fits : (m : ModelParts) (j : ℕ) → IsModel m → j < length m.vars → VarFits (var_at m.vars j)

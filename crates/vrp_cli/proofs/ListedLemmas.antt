@@ -1,6 +1,6 @@
 -- The feasible walks of all graphs of a model in one list, and what each uses and visits.
-use Rattle.std.proofs.Common.{◌≡◌, ◌≢◌, ℕ, zero, suc, ◌+◌, ◌-◌, ◌<◌, ◌≤◌, List, [], ◌∷◌, ◌++◌, length, take, get_or, ◌⊎◌, inl, inr, arith, sym, ◌∙◌, ap, subst, refl, All, Bool, true, false, cond, ◌||◌, ◌&&◌, eqb, Option, Some, None, IfSome}
-use Rattle.std.specs.Prelude.{sum_by, count_by, flat_map, nat_lt, option_map, unwrap_or}
+use Rattle.std.proofs.Common.{◌≡◌, ◌≢◌, ℕ, suc, ◌+◌, ◌-◌, ◌<◌, ◌≤◌, List, [], ◌∷◌, ◌++◌, length, take, get_or, inl, inr, arith, sym, ◌∙◌, ap, subst, refl, All, Bool, true, false, cond, ◌||◌, ◌&&◌, eqb, Option, Some, None, IfSome}
+use Rattle.std.specs.Prelude.{count_by, flat_map, nat_lt, option_map, unwrap_or}
 use Rattle.std.specs.List.{list_any}
 use Rattle.std.specs.Option.{option_to_list}
 use Rattle.std.specs.List.Sorted.{IsStrictlyIncreasing}
@@ -11,13 +11,12 @@ use Rattle.std.proofs.lemmas.List.Elements.{All-nil, All-cons, All-append, All-f
 use Rattle.std.proofs.lemmas.List.Sums.{sum_by-cons, sum_by-append}
 use Rattle.path_graph.specs.Fit.{vertex_at}
 use Rattle.path_graph.specs.Walk.{GraphParts, arc_at, IsFeasibleWalk}
-use Rattle.route_model.specs.First.{EachBelow}
 use Rattle.route_model.specs.Fit.{IsModel, GraphMapsFit, MapFits, GraphFits}
 use Rattle.route_model.specs.Parts.{ModelParts, graph_at, maps_in, mapped_vars}
 use Rattle.route_model.specs.Quantities.{uses_in, is_mapped, visits_in, enters, is_of}
 use Rattle.vrp_cli.specs.declared.search.listed.ListedWalk.{ListedWalk}
 use Rattle.vrp_cli.specs.Partial.{IsWalkList}
-use Rattle.vrp_cli.specs.Listed.{vars_along, sets_along, IsListed, walk_at, Lists, ListsWalks, Appends}
+use Rattle.vrp_cli.specs.Listed.{vars_along, sets_along, IsListed, walk_at, ListsWalks, Appends}
 use Rattle.vrp_cli.specs.Totals.{times_in}
 use Rattle.vrp_cli.proofs.PartialLemmas.{leads_below}
 

@@ -1,5 +1,5 @@
 -- Quantities of the plan of a selection, and which selections are solutions.
-use Rattle.std.proofs.Common.{◌≡◌, ℕ, ◌+◌, ◌*◌, ◌<◌, ◌≤◌, ℤ, pos, ◌*ℤ◌, ◌≤ℤ◌, List, [], ◌∷◌, ◌++◌, length, get_or, arith, sym, ◌∙◌, ap, subst, refl, All, cond, slice_index}
+use Rattle.std.proofs.Common.{◌≡◌, ℕ, ◌+◌, ◌*◌, ◌<◌, ◌≤◌, pos, ◌*ℤ◌, ◌≤ℤ◌, List, [], ◌∷◌, ◌++◌, length, get_or, arith, sym, ap, subst, refl, All, slice_index}
 use Rattle.std.specs.Prelude.{sum_by}
 use Rattle.std.proofs.lemmas.List.{get_or-map, length-map}
 use Rattle.std.proofs.lemmas.List.Sums.{sum_by-cons, sum_by-append, sum_by_push}
@@ -13,7 +13,8 @@ use Rattle.route_model.specs.Solution.{IsPath, IsBetween, IsSolution}
 use Rattle.vrp_cli.specs.declared.search.listed.ListedWalk.{ListedWalk}
 use Rattle.vrp_cli.specs.declared.search.totals.Totals.{Totals}
 use Rattle.vrp_cli.specs.Listed.{IsListed, walk_at, ListsAll}
-use Rattle.vrp_cli.specs.Totals.{times_in, AreAll, AreTotalsOf, HaveSizes, GrowsBy, HasAtLeast, HaveWalk, AddsWalk, AreSame, HasBoth, AreInLimits, terms_sum_at, cost_at, TotalsSolve}
+use Rattle.vrp_cli.specs.Totals.{times_in, AreAll, AreTotalsOf, HaveSizes, GrowsBy, HasAtLeast, HaveWalk, AddsWalk, AreSame}
+use Rattle.vrp_cli.specs.Limits.{HasBoth, AreInLimits, terms_sum_at, cost_at, TotalsSolve}
 use Rattle.vrp_cli.specs.Selection.{taken_once, plan_of, most_paths, IsSelection}
 use Rattle.route_model.proofs.SolutionLemmas.{paths_few}
 use Rattle.vrp_cli.proofs.ListedLemmas.{listed_vars, listed_sets, graph_times}

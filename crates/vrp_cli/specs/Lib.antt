@@ -4,4 +4,5 @@ pub mod Ahead
 pub mod Partial
 pub mod Listed
 pub mod Totals
+pub mod Limits
 pub mod Selection

@@ -11,7 +11,8 @@ use Rattle.vrp_cli.specs.declared.search.choose.Found.{Found}
 use Rattle.vrp_cli.specs.declared.search.choose.Choice.{Choice}
 use Rattle.vrp_cli.specs.Ahead.{IsAhead, work_left}
 use Rattle.vrp_cli.specs.Listed.{walk_at}
-use Rattle.vrp_cli.specs.Totals.{AreTotalsOf, AreInLimits, TotalsSolve, cost_at}
+use Rattle.vrp_cli.specs.Totals.{AreTotalsOf}
+use Rattle.vrp_cli.specs.Limits.{AreInLimits, TotalsSolve, cost_at}
 
 -- the plan of a selection takes each chosen walk once, and again where it is chosen again
 abbrev pub taken_once : List ListedWalk → ℕ → Taken

@@ -1,15 +1,9 @@
 -- The totals of a selection as lists: values of the variables, visits of the packing sets, paths of the graphs.
-use Rattle.std.specs.Prelude.{◌≡◌, ℕ, ◌+◌, ◌<◌, ◌≤◌, ◌^◌, ℤ, pos, ◌*ℤ◌, ◌≤ℤ◌, List, [], ◌∷◌, length, All, EachIndex, None, sum_by, count_by, ◌==◌, slice_index}
-use Rattle.std.specs.Int.{int_min, int_max}
-use Rattle.path_graph.specs.Sums.{sum_below}
-use Rattle.route_model.specs.declared.parts.Var.{Var}
-use Rattle.route_model.specs.declared.parts.Row.{Row}
-use Rattle.route_model.specs.declared.parts.RowTerm.{RowTerm}
+use Rattle.std.specs.Prelude.{◌≡◌, ℕ, ◌+◌, ◌<◌, ◌≤◌, ◌^◌, List, [], ◌∷◌, length, All, count_by, ◌==◌, slice_index}
 use Rattle.route_model.specs.declared.plan.Taken.{Taken}
-use Rattle.route_model.specs.Parts.{ModelParts, var_at, row_at, term_at, graph_at}
+use Rattle.route_model.specs.Parts.{ModelParts}
 use Rattle.route_model.specs.First.{EachBelow}
 use Rattle.route_model.specs.Quantities.{value_of, visits_of, paths_of}
-use Rattle.route_model.specs.Solution.{IsBetween, IsSolution}
 use Rattle.vrp_cli.specs.declared.search.listed.ListedWalk.{ListedWalk}
 use Rattle.vrp_cli.specs.declared.search.totals.Totals.{Totals}
 
@@ -17,7 +11,7 @@ use Rattle.vrp_cli.specs.declared.search.totals.Totals.{Totals}
 abbrev pub times_in : List ℕ → ℕ → ℕ
 times_in numbers k = count_by (λ i. i == k) numbers
 
--- the numbers are f 0, f 1 and so on below n
+-- the numbers are f 0, f 1 and so on, n of them
 pub record AreAll (n : ℕ) (f : ℕ → ℕ) (xs : List ℕ) : Type 0 where
   pub count : length xs ≡ n
   pub each : EachBelow n (λ k. slice_index xs k ≡ f k)
@@ -28,24 +22,27 @@ pub record AreTotalsOf (m : ModelParts) (plan : List Taken) (t : Totals) : Type 
   pub visits : AreAll m.sets (visits_of m plan) t.visits.items
   pub counts : AreAll (length m.graphs) (paths_of plan) t.counts.items
 
--- there is a total for each variable, packing set and graph; and for each that a walk uses
+-- there is a total for each variable, packing set and graph
 pub record HaveSizes (m : ModelParts) (t : Totals) : Type 0 where
   pub values : length t.values.items ≡ length m.vars
   pub visits : length t.visits.items ≡ m.sets
   pub counts : length t.counts.items ≡ length m.graphs
 
+-- there is a total for each variable and packing set that a walk has, and for its graph
 pub record HaveUsed (w : ListedWalk) (t : Totals) : Type 0 where
   pub values : All (λ k. k < length t.values.items) w.vars
   pub visits : All (λ k. k < length t.visits.items) w.sets
   pub count : w.graph < length t.counts.items
 
--- each total has room for more, or is at least so much; and it grows or shrinks by that
+-- each number has room for more
 abbrev pub HasRoomFor : (ℕ → ℕ) → List ℕ → Type 0
 HasRoomFor more xs = EachBelow (length xs) (λ k. slice_index xs k + more k < 2 ^ 64)
 
+-- each number is at least so much
 abbrev pub HasAtLeast : (ℕ → ℕ) → List ℕ → Type 0
 HasAtLeast less xs = EachBelow (length xs) (λ k. less k ≤ slice_index xs k)
 
+-- each number grows by so much
 pub record GrowsBy (more : ℕ → ℕ) (old new : List ℕ) : Type 0 where
   pub count : length new ≡ length old
   pub each : EachBelow (length old) (λ k. slice_index new k ≡ slice_index old k + more k)
@@ -56,102 +53,20 @@ pub record HaveRoom (t : Totals) : Type 0 where
   pub visits : All (λ n. n < 2 ^ 63) t.visits.items
   pub counts : All (λ n. n < 2 ^ 63) t.counts.items
 
--- the totals are at least those of a walk; and they grow by those
+-- each total is at least that of a walk
 pub record HaveWalk (w : ListedWalk) (t : Totals) : Type 0 where
   pub values : HasAtLeast (times_in w.vars) t.values.items
   pub visits : HasAtLeast (times_in w.sets) t.visits.items
   pub counts : HasAtLeast (times_in (w.graph ∷ [])) t.counts.items
 
+-- each total grows by that of a walk
 pub record AddsWalk (w : ListedWalk) (old new : Totals) : Type 0 where
   pub values : GrowsBy (times_in w.vars) old.values.items new.values.items
   pub visits : GrowsBy (times_in w.sets) old.visits.items new.visits.items
   pub counts : GrowsBy (times_in (w.graph ∷ [])) old.counts.items new.counts.items
-
--- a plan has at least these totals and those of a walk
-pub record HasBoth (m : ModelParts) (plan : List Taken) (t : Totals) (w : ListedWalk) : Type 0 where
-  pub values : EachBelow (length m.vars) (λ j. slice_index t.values.items j + times_in w.vars j ≤ value_of m plan j)
-  pub visits : EachBelow m.sets (λ s. slice_index t.visits.items s + times_in w.sets s ≤ visits_of m plan s)
-  pub counts : EachBelow (length m.graphs) (λ g. slice_index t.counts.items g + times_in (w.graph ∷ []) g ≤ paths_of plan g)
-
--- no solution has at least these totals and those of the walk
-abbrev pub IsCut : ModelParts → Totals → ListedWalk → Type 0
-IsCut m t w = (plan : List Taken) → HasBoth m plan t w → IsSolution m plan → ⊥
 
 -- totals with the same numbers
 pub record AreSame (old new : Totals) : Type 0 where
   pub values : new.values.items ≡ old.values.items
   pub visits : new.visits.items ≡ old.visits.items
   pub counts : new.counts.items ≡ old.counts.items
-
--- a variable is not above its box; none of some is; none is that a walk does not use
-abbrev pub IsNotAbove : List Var → List ℕ → ℕ → Type 0
-IsNotAbove vars values j = (pos (slice_index values j)) ≤ℤ (var_at vars j).high
-
-abbrev pub AreNotAboveAmong : List Var → List ℕ → List ℕ → Type 0
-AreNotAboveAmong vars values used =
-    EachIndex used (λ k. IsNotAbove vars values (slice_index used k))
-
-abbrev pub OthersAreNotAbove : List Var → List ℕ → List ℕ → Type 0
-OthersAreNotAbove vars values used =
-    EachBelow (length vars) (λ j. times_in used j ≡ 0 → IsNotAbove vars values j)
-
--- each of some packing sets is visited at most once
-abbrev pub AreOnceAmong : List ℕ → List ℕ → Type 0
-AreOnceAmong visits used = EachIndex used (λ k. slice_index visits (slice_index used k) ≤ 1)
-
--- no variable is above its box, no packing set is visited twice, and no graph has too many paths
-pub record AreInLimits (m : ModelParts) (t : Totals) : Type 0 where
-  pub vars : EachBelow (length m.vars) (IsNotAbove m.vars t.values.items)
-  pub sets : EachBelow m.sets (λ s. slice_index t.visits.items s ≤ 1)
-  pub counts : EachBelow (length m.graphs) (λ g. slice_index t.counts.items g ≤ (graph_at m g).ends.high)
-
--- the sum of a row, and the cost
-abbrev pub terms_sum_at : List ℕ → List RowTerm → ℤ
-terms_sum_at values terms =
-    sum_below (length terms) (λ k.
-    (term_at terms k).coef *ℤ pos (slice_index values (term_at terms k).var))
-
-abbrev pub cost_at : List Var → List ℕ → ℤ
-cost_at vars values =
-    sum_below (length vars) (λ j. (var_at vars j).cost *ℤ pos (slice_index values j))
-
-abbrev pub RowHoldsAt : List Row → List ℕ → ℕ → Type 0
-RowHoldsAt rows values i =
-    IsBetween (row_at rows i).low (row_at rows i).high (terms_sum_at values (row_at rows i).terms)
-
--- the least and the greatest of a term while its variable goes from its value to the high end of its box
-abbrev pub least_term : List Var → List ℕ → RowTerm → ℤ
-least_term vars values t =
-    int_min (t.coef *ℤ pos (slice_index values t.var)) (t.coef *ℤ (var_at vars t.var).high)
-
-abbrev pub greatest_term : List Var → List ℕ → RowTerm → ℤ
-greatest_term vars values t =
-    int_max (t.coef *ℤ pos (slice_index values t.var)) (t.coef *ℤ (var_at vars t.var).high)
-
-abbrev pub least_sum : List Var → List ℕ → List RowTerm → ℤ
-least_sum vars values terms = sum_below (length terms) (λ k. least_term vars values (term_at terms k))
-
-abbrev pub greatest_sum : List Var → List ℕ → List RowTerm → ℤ
-greatest_sum vars values terms = sum_below (length terms) (λ k. greatest_term vars values (term_at terms k))
-
--- the sum of a row may still come between its sides
-abbrev pub RowCanHold : List Var → List ℕ → Row → Type 0
-RowCanHold vars values row =
-    IsBetween row.low None (greatest_sum vars values row.terms)
-    × IsBetween None row.high (least_sum vars values row.terms)
-
--- after a walk was added, nothing that it uses is above its limit, and each row can hold
-pub record MayGoOn (m : ModelParts) (w : ListedWalk) (t : Totals) : Type 0 where
-  pub vars : AreNotAboveAmong m.vars t.values.items w.vars
-  pub sets : AreOnceAmong t.visits.items w.sets
-  pub rows : EachBelow (length m.rows) (λ i. RowCanHold m.vars t.values.items (row_at m.rows i))
-
--- totals within their limits are those of a solution: no variable is below its box, no graph has too few paths, each row holds
-abbrev pub AreNotBelow : List Var → List ℕ → Type 0
-AreNotBelow vars values =
-    EachBelow (length vars) (λ j. (var_at vars j).low ≤ℤ (pos (slice_index values j)))
-
-pub record TotalsSolve (m : ModelParts) (t : Totals) : Type 0 where
-  pub enough : EachBelow (length m.graphs) (λ g. (graph_at m g).ends.low ≤ slice_index t.counts.items g)
-  pub not_below : AreNotBelow m.vars t.values.items
-  pub rows : EachBelow (length m.rows) (RowHoldsAt m.rows t.values.items)

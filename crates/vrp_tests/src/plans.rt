@@ -3,6 +3,8 @@
 ghost use Rattle.std.specs.Prelude.{IfOk, ◌≤◌};
 ghost use Rattle.route_model.specs.Verdicts.{IsCounted};
 
+use crate::building::build;
+use crate::least;
 use crate::texts;
 use model_text::read_model;
 use path_graph::{List, is_walk};
@@ -124,6 +126,42 @@ fn verdicts(rt: HostRuntime) -> Result<(), Fail> {
         ),
     ] {
         let model = read_model(rt.alloc(), text.as_bytes())?;
+        assert!(rt; count <= 4_096);
+        let plan = lone_path(rt.alloc(), graph, count, arcs)?;
+        assert_eq!(rt; judge(&model, &plan), verdict, "{name}");
+    }
+    Ok(())
+}
+
+#[test]
+fn verdicts_on_built_models(rt: HostRuntime) -> Result<(), Fail> {
+    for (name, table, graph, count, arcs, verdict) in [
+        (
+            "each set visited twice",
+            least::FOUR,
+            0,
+            2,
+            [0, 2, 5].as_slice(),
+            Verdict::Packing(0),
+        ),
+        (
+            "too many paths of the second graph",
+            least::TWO_GRAPHS,
+            1,
+            2,
+            [0].as_slice(),
+            Verdict::Count(1),
+        ),
+        (
+            "one graph alone",
+            least::TWO_GRAPHS,
+            0,
+            1,
+            [0].as_slice(),
+            Verdict::RowBox(0),
+        ),
+    ] {
+        let model = build(rt.alloc(), table)?;
         assert!(rt; count <= 4_096);
         let plan = lone_path(rt.alloc(), graph, count, arcs)?;
         assert_eq!(rt; judge(&model, &plan), verdict, "{name}");

@@ -2,7 +2,7 @@ ghost use Rattle.std.specs.Prelude.{◌≡◌, ◌↔◌, IsTrue, ◌<◌, ◌�
 ghost use Rattle.path_graph.specs.Within.{IsWithin};
 ghost use Rattle.route_model.specs.First.{EachBelow};
 ghost use Rattle.route_model.specs.Fit.{VarFits, cost_range_of, cost_range};
-ghost use Rattle.vrp_cli.specs.Totals.{IsNotAbove, AreNotAboveAmong, AreOnceAmong, AreNotBelow, cost_at};
+ghost use Rattle.vrp_cli.specs.Limits.{IsNotAbove, AreNotAboveAmong, AreOnceAmong, AreNotBelow, cost_at};
 
 use route_model::{Var, added, product};
 

@@ -4,7 +4,8 @@ ghost use Rattle.route_model.specs.Solution.{HasNoSolution};
 ghost use Rattle.route_model.specs.Verdicts.{IsCounted};
 ghost use Rattle.vrp_cli.specs.declared.search.listed.ListedWalk.{ListedWalk};
 ghost use Rattle.vrp_cli.specs.Listed.{ListsAll};
-ghost use Rattle.vrp_cli.specs.Totals.{HaveSizes, AreInLimits};
+ghost use Rattle.vrp_cli.specs.Totals.{HaveSizes};
+ghost use Rattle.vrp_cli.specs.Limits.{AreInLimits};
 ghost use Rattle.vrp_cli.specs.Selection.{most_paths, IsAtMost, IsChoiceOf, choice_left, IsBest, Considers, plan_of};
 ghost use Rattle.vrp_cli.specs.Headline.{IsLeastPlan};
 

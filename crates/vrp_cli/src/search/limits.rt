@@ -3,7 +3,8 @@ ghost use Rattle.route_model.specs.First.{EachBelow};
 ghost use Rattle.route_model.specs.Fit.{IsModel};
 ghost use Rattle.route_model.specs.Parts.{graph_at, graph_in};
 ghost use Rattle.vrp_cli.specs.Listed.{IsListed};
-ghost use Rattle.vrp_cli.specs.Totals.{HaveSizes, AddsWalk, IsCut, AreSame, AreInLimits, OthersAreNotAbove, MayGoOn, TotalsSolve};
+ghost use Rattle.vrp_cli.specs.Totals.{HaveSizes, AddsWalk, AreSame};
+ghost use Rattle.vrp_cli.specs.Limits.{IsCut, AreInLimits, OthersAreNotAbove, MayGoOn, TotalsSolve};
 
 use crate::search::checks::{are_above, sets_fit, vars_fit};
 use crate::search::listed::ListedWalk;

@@ -3,7 +3,7 @@ ghost use Rattle.path_graph.specs.Within.{IsWithin};
 ghost use Rattle.route_model.specs.First.{EachBelow};
 ghost use Rattle.route_model.specs.Fit.{VarFits, TermFits, RowFits};
 ghost use Rattle.route_model.specs.Parts.{row_at, var_at};
-ghost use Rattle.vrp_cli.specs.Totals.{terms_sum_at, RowHoldsAt, least_term, greatest_term, least_sum, greatest_sum, RowCanHold};
+ghost use Rattle.vrp_cli.specs.Limits.{terms_sum_at, RowHoldsAt, least_term, greatest_term, least_sum, greatest_sum, RowCanHold};
 
 use route_model::{Row, RowTerm, Var, added, is_between, product, product_ends};
 

@@ -1,5 +1,5 @@
 use Rattle.std.proofs.Common.{ℕ, ◌<◌, slice_index}
-use Rattle.vrp_cli.specs.Totals.{IsNotAbove}
+use Rattle.vrp_cli.specs.Limits.{IsNotAbove}
 use Rattle.vrp_cli.proofs.search.checks.vars_fit.Given as goal
 
 abbrev pub invariant-loop-var : goal.invariant-loop-var

@@ -2,7 +2,7 @@ use Rattle.std.proofs.Common.{ℕ, ◌+◌, ◌<◌, List, length, refl, All, sy
 use Rattle.std.proofs.lemmas.List.{nil_from_length}
 use Rattle.vrp_cli.specs.declared.search.listed.ListedWalk.{ListedWalk}
 use Rattle.vrp_cli.specs.declared.search.choose.Choice.{Choice}
-use Rattle.vrp_cli.specs.Listed.{IsListed, walk_at}
+use Rattle.vrp_cli.specs.Listed.{IsListed}
 use Rattle.vrp_cli.specs.Totals.{AreTotalsOf, AddsWalk, HaveWalk}
 use Rattle.vrp_cli.specs.Selection.{plan_of}
 use Rattle.vrp_cli.proofs.ListedLemmas.{no_walk}

@@ -1,9 +1,9 @@
-use Rattle.std.proofs.Common.{◌≡◌, ℕ, ◌<◌, ◌≤◌, ℤ, List, Option, IfSome, All, length, subst, sym, ◌∙◌, ap, rules, FitsSigned, w64}
+use Rattle.std.proofs.Common.{ℕ, ◌<◌, ℤ, List, Option, IfSome, All, length, subst, sym, ◌∙◌, ap, rules, FitsSigned, w64}
 use Rattle.std.proofs.lemmas.Int.{to_z-of_z}
 use Rattle.route_model.specs.declared.plan.Taken.{Taken}
 use Rattle.route_model.specs.Fit.{IsModel}
 use Rattle.route_model.specs.Parts.{ModelParts}
-use Rattle.route_model.specs.Tidy.{AreFew, KeepsQuantities, AllComeFrom}
+use Rattle.route_model.specs.Tidy.{AreFew}
 use Rattle.route_model.proofs.SolutionLemmas.{solution_counted}
 use Rattle.vrp_cli.specs.declared.search.choose.Found.{Found}
 use Rattle.vrp_cli.specs.Headline.{IsLeastPlan}

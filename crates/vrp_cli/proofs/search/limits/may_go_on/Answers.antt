@@ -1,7 +1,7 @@
 use Rattle.std.proofs.Common.{◌≡◌, ℕ, ◌<◌, ◌≤◌, List, length, All, refl, subst, sym, ◌∙◌, ap}
 use Rattle.route_model.specs.declared.parts.Var.{Var}
 use Rattle.route_model.specs.Parts.{ModelParts}
-use Rattle.vrp_cli.specs.Totals.{AreNotAboveAmong}
+use Rattle.vrp_cli.specs.Limits.{AreNotAboveAmong}
 use Rattle.vrp_cli.proofs.ListedLemmas.{listed_vars_below, listed_sets_below}
 use Rattle.vrp_cli.proofs.LimitLemmas.{none_above, values_small}
 use Rattle.vrp_cli.proofs.search.limits.may_go_on.Goals as goal

@@ -1,5 +1,5 @@
-use Rattle.std.proofs.Common.{◌≡◌, true, false, refl, ◌∙◌}
-use Rattle.vrp_cli.specs.Totals.{MayGoOn}
+use Rattle.std.proofs.Common.{◌≡◌, true, false, refl}
+use Rattle.vrp_cli.specs.Limits.{MayGoOn}
 use Rattle.vrp_cli.proofs.LimitLemmas.{have_used, have_room, sizes_stay, in_limits, not_full, goes_on_if_solves, are_same}
 use Rattle.vrp_cli.proofs.search.limits.take.Goals as goal
 

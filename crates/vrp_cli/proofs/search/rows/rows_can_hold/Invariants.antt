@@ -1,6 +1,6 @@
 use Rattle.std.proofs.Common.{ℕ, ◌<◌}
 use Rattle.route_model.specs.Parts.{row_at}
-use Rattle.vrp_cli.specs.Totals.{RowCanHold}
+use Rattle.vrp_cli.specs.Limits.{RowCanHold}
 use Rattle.vrp_cli.proofs.search.rows.rows_can_hold.Given as goal
 
 abbrev pub invariant-loop-row : goal.invariant-loop-row

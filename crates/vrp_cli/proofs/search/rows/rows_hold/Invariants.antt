@@ -1,5 +1,5 @@
 use Rattle.std.proofs.Common.{ℕ, ◌<◌}
-use Rattle.vrp_cli.specs.Totals.{RowHoldsAt}
+use Rattle.vrp_cli.specs.Limits.{RowHoldsAt}
 use Rattle.vrp_cli.proofs.search.rows.rows_hold.Given as goal
 
 abbrev pub invariant-loop-row : goal.invariant-loop-row

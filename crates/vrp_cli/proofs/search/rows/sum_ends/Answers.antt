@@ -1,8 +1,8 @@
-use Rattle.std.proofs.Common.{◌≡◌, ℕ, ◌+◌, ◌*◌, ℤ, w64, FitsSigned, rules, length, ◌∙◌, ap, arith}
+use Rattle.std.proofs.Common.{◌≡◌, ℕ, ◌+◌, ◌*◌, w64, FitsSigned, rules, length, ◌∙◌, ap, arith}
 use Rattle.path_graph.specs.Sums.{sum_below}
 use Rattle.path_graph.proofs.SumLemmas.{signed_loop_step}
 use Rattle.route_model.specs.Parts.{term_at}
-use Rattle.vrp_cli.specs.Totals.{least_term, greatest_term}
+use Rattle.vrp_cli.specs.Limits.{least_term, greatest_term}
 use Rattle.vrp_cli.proofs.search.rows.sum_ends.Goals as goal
 
 pub loop-term-preserved : goal.loop-term-preserved

@@ -1,7 +1,7 @@
 use Rattle.std.proofs.Common.{◌*◌}
 use Rattle.path_graph.proofs.SumLemmas.{IsSumWithin}
 use Rattle.route_model.specs.Parts.{term_at}
-use Rattle.vrp_cli.specs.Totals.{least_term, greatest_term}
+use Rattle.vrp_cli.specs.Limits.{least_term, greatest_term}
 use Rattle.vrp_cli.proofs.search.rows.sum_ends.Given as goal
 
 abbrev pub invariant-loop-term : goal.invariant-loop-term

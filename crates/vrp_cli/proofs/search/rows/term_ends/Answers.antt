@@ -1,9 +1,9 @@
-use Rattle.std.proofs.Common.{◌≡◌, ◌≤ℤ◌, neg_ℤ, ℤ, pos, w64, to_z, of_z, rules, subst, sym, slice_index, arith}
+use Rattle.std.proofs.Common.{◌≡◌, ℤ, pos, rules, subst, sym, slice_index, arith}
 use Rattle.std.proofs.lemmas.Int.{ints}
 use Rattle.path_graph.specs.Within.{IsWithin}
 use Rattle.route_model.specs.Fit.{VarFits}
 use Rattle.route_model.specs.Parts.{var_at}
-use Rattle.vrp_cli.specs.Totals.{least_term, greatest_term}
+use Rattle.vrp_cli.specs.Limits.{least_term, greatest_term}
 use Rattle.vrp_cli.proofs.CheckLemmas.{ends_within}
 use Rattle.vrp_cli.proofs.search.rows.term_ends.Goals as goal
 
