@@ -47,11 +47,13 @@ no_cycle ends vertices arcs cycle found fit consumes = first found.vertex cycle 
   where
     enters_sink : (a : ℕ) → a < length arcs → is_free (arc_at arcs a) ≡ true → (arc_at arcs a).head ≡ ends.sink
     enters_sink a l f = elim (cases_eq (arc_at arcs a).head ends.sink) [
-        | inl e ↦ e
-        | inr n ↦ absurd (consumed (int_at (arc_at arcs a).needs 0) (int_at (arc_at arcs a).needs 1) f (consumes a _ l n))
-      ]
+      | inl e ↦ e
+      | inr n ↦ absurd (consumed (int_at (arc_at arcs a).needs 0) (int_at (arc_at arcs a).needs 1) f (consumes a _ l n))
+    ]
+
     leaves_sink : (a : ℕ) → a < length arcs → (arc_at arcs a).tail ≡ ends.sink → ⊥
     leaves_sink a l e = let fits : ArcFits ends (length vertices) (arc_at arcs a) = fit.each_arc a _ l in fits.not_out e
+
     first : (v : ℕ) (xs : List ℕ) → 1 ≤ length xs → IsFreePath arcs v xs v → ⊥
     first v [] some leads = omega (arith, some)
     first v (a ∷ []) some leads = leaves_sink a leads.0 (leads.2 ∙ (sym leads.3 ∙ enters_sink a leads.0 leads.1))

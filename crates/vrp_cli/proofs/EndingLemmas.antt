@@ -7,12 +7,12 @@ use Rattle.std.proofs.lemmas.Slice.Eq.{bytes_eq-Decides}
 use Rattle.std.proofs.KnownBytes.{Consumes-whole}
 use Rattle.vrp_io.specs.Bytes.{TookAll}
 use Rattle.route_model.specs.declared.plan.Taken.{Taken}
-use Rattle.route_model.specs.Parts.{ModelParts, graph_at}
+use Rattle.route_model.specs.Parts.{ModelParts}
 use Rattle.model_text.specs.declared.kind.TextFault.{TextFault}
 use Rattle.model_text.specs.declared.kind.Kind.TheVariants.{Unbuilt}
 use Rattle.model_text.specs.Kinds.{kind_number, kind_name}
 use Rattle.model_text.specs.Lines.{line}
-use Rattle.model_text.specs.SmallForm.{IsSmallForm, Spells, SpellsNothing}
+use Rattle.model_text.specs.SmallForm.{Spells, SpellsNothing}
 use Rattle.vrp_cli.specs.declared.answer.Answer.{Answer}
 use Rattle.vrp_cli.specs.declared.answer.Answer.TheVariants.{Optimal, Infeasible, Words, Model, ReadFailed, Memory, TooLong}
 use Rattle.vrp_cli.specs.Headline.{IsLeastPlan, AreTaken, input_limit, optimal_text, TellsLeast, SpellsInfeasible, ReadWhole, Answers, optimal, infeasible, model_refused}

@@ -1,16 +1,14 @@
 -- Steps of the search that lists the feasible walks.
-use Rattle.std.proofs.Common.{◌≡◌, ◌≢◌, ℕ, zero, suc, ◌+◌, ◌-◌, ◌<◌, ◌≤◌, ℤ, pos, ◌+ℤ◌, ◌≤ℤ◌, List, [], ◌∷◌, ◌++◌, length, get_or, inl, inr, arith, sym, ◌∙◌, ap, subst, refl, All, Contains, slice_get, Some}
-use Rattle.std.proofs.lemmas.Int.{ints, clamps}
-use Rattle.std.specs.Int.{int_max}
+use Rattle.std.proofs.Common.{◌≡◌, ◌≢◌, ℕ, zero, suc, ◌+◌, ◌-◌, ◌<◌, ◌≤◌, List, [], ◌∷◌, ◌++◌, length, get_or, inl, inr, arith, sym, ◌∙◌, ap, subst, refl, All, Contains, slice_get, Some}
 use Rattle.std.proofs.lemmas.Bool.{cases_lt}
 use Rattle.std.proofs.lemmas.Option.{get_or_from_slice_get, slice_get_within}
 use Rattle.std.proofs.lemmas.List.{length_push, same_from_push, get_or_append_left, get_or_push}
 use Rattle.std.proofs.lemmas.List.Elements.{All-nil, All-cons, All-push, All-weaker, Contains-append_left, Contains-push}
 use Rattle.path_graph.specs.declared.parts.Values.{Values}
-use Rattle.path_graph.specs.Fit.{int_at, window_at, vertex_at}
+use Rattle.path_graph.specs.Fit.{vertex_at}
 use Rattle.path_graph.specs.Walk.{GraphParts, IsGraph, arc_at, Leads, Passes, over_of, root_of, IsFeasibleWalk}
 use Rattle.path_graph.specs.Within.{AreWithin}
-use Rattle.path_graph.proofs.WalkLemmas.{passes_split, passes_join, within_at_end, end_within, root_is_within}
+use Rattle.path_graph.proofs.WalkLemmas.{passes_split, passes_join, within_at_end, root_is_within}
 use Rattle.path_graph.proofs.LevelLemmas.{walk_short}
 use Rattle.vrp_cli.specs.declared.search.walks.Listing.{Listing}
 use Rattle.vrp_cli.specs.Ahead.{IsAhead, work_left, walk_depth}

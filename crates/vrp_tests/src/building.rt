@@ -1,9 +1,5 @@
 //! Models that are built from short tables.
 
-ghost use Rattle.std.specs.Prelude.{◌↔◌, IsTrue, IfOk, All};
-ghost use Rattle.path_graph.specs.Within.{ConsumesBeforeSink};
-ghost use Rattle.vrp_cli.specs.Listed.{AllConsume};
-
 use path_graph::{Ends, Graph, GraphArc, List, NoMemory, Vertex, Window, parts_fit};
 use route_model::{Model, Row, RowTerm, Var, model_fits};
 use std::alloc::Global;
@@ -49,9 +45,7 @@ pub struct ModelTable {
 }
 
 /// The model of a table.
-pub fn build(alloc: Global, table: ModelTable) -> Result<Model, Fail>
-    ensures { IfOk result AllConsume }
-{
+pub fn build(alloc: Global, table: ModelTable) -> Result<Model, Fail> {
     let vars = vars_of(alloc, table.vars)?;
     let rows = rows_of(alloc, table.rows)?;
     let graphs = graphs_of(alloc, table.graphs)?;
@@ -120,9 +114,7 @@ fn graph_maps_of(alloc: Global, table: &[ArcTable]) -> Result<List<List<u32>>, N
     Ok(List::from_vec(maps))
 }
 
-fn graphs_of(alloc: Global, table: &[GraphTable]) -> Result<List<Graph>, Fail>
-    ensures { IfOk result (All (λ g. ConsumesBeforeSink g.ends g.arcs)) }
-{
+fn graphs_of(alloc: Global, table: &[GraphTable]) -> Result<List<Graph>, Fail> {
     let mut graphs = Vec::new(alloc);
     for graph in table {
         graphs.push(graph_of(alloc, graph)?)?;
@@ -130,26 +122,13 @@ fn graphs_of(alloc: Global, table: &[GraphTable]) -> Result<List<Graph>, Fail>
     Ok(List::from_vec(graphs))
 }
 
-fn graph_of(alloc: Global, table: &GraphTable) -> Result<Graph, Fail>
-    ensures { IfOk result (λ g. ConsumesBeforeSink g.ends g.arcs) }
-{
+fn graph_of(alloc: Global, table: &GraphTable) -> Result<Graph, Fail> {
     let vertices = vertices_of(alloc, table.vertices)?;
     let arcs = arcs_of(alloc, table.arcs)?;
     if !parts_fit(&table.ends, vertices.as_slice(), arcs.as_slice()) {
         return Err(Fail::new("the parts of a graph don't fit"));
     }
-    if !consumes(&table.ends, arcs.as_slice()) {
-        return Err(Fail::new("an arc that doesn't enter the sink doesn't consume"));
-    }
     Ok(Graph::new(alloc, table.ends, vertices.as_slice(), arcs.as_slice())?)
-}
-
-/// Whether each arc that doesn't enter the sink consumes.
-fn consumes(ends: &Ends, arcs: &[GraphArc]) -> bool
-    ensures { IsTrue result ↔ ConsumesBeforeSink ends.now arcs.now }
-{
-    arcs.iter()
-        .all(|arc| arc.head == ends.sink || arc.needs[0] >= 1)
 }
 
 fn vertices_of(alloc: Global, table: &[VertexTable]) -> Result<Vec<Vertex>, NoMemory> {

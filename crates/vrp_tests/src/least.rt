@@ -678,6 +678,41 @@ pub const SHARED_SET: ModelTable = ModelTable {
     ],
 };
 
+/// A way whose arcs consume nothing, beside a direct one.
+pub const FREE_WAY: ModelTable = ModelTable {
+    vars: &[(0, 1, 2), (0, 1, 9)],
+    rows: &[],
+    sets: 1,
+    graphs: &[GraphTable {
+        ends: Ends {
+            source: 0,
+            sink: 2,
+            low: 1,
+            high: 1,
+            mains: 1,
+            seconds: 0,
+        },
+        vertices: BYPASS_VERTICES,
+        arcs: &[
+            ArcTable {
+                ends: (0, 1),
+                needs: &[0],
+                vars: &[0],
+            },
+            ArcTable {
+                ends: (1, 2),
+                needs: &[0],
+                vars: &[],
+            },
+            ArcTable {
+                ends: (0, 2),
+                needs: &[0],
+                vars: &[1],
+            },
+        ],
+    }],
+};
+
 /// A variable that no arc maps, whose box doesn't hold 0.
 pub const UNMAPPED: ModelTable = ModelTable {
     vars: &[(0, 1, 5), (1, 1, 2)],
@@ -809,6 +844,11 @@ fn least_plans(rt: HostRuntime) -> Result<(), Fail> {
             "a set of two graphs",
             SHARED_SET,
             Expected::Plan(4, "path 0 1 0 1\npath 1 1 2\n"),
+        ),
+        (
+            "arcs that consume nothing",
+            FREE_WAY,
+            Expected::Plan(2, "path 0 1 0 1\n"),
         ),
         ("a variable without arcs", UNMAPPED, Expected::Nothing),
         (

@@ -10,6 +10,8 @@ mod calls;
 #[cfg(test)]
 mod least;
 #[cfg(test)]
+mod paths;
+#[cfg(test)]
 mod plans;
 #[cfg(test)]
 mod running;

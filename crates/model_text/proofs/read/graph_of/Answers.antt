@@ -1,4 +1,4 @@
-use Rattle.std.proofs.Common.{◌≡◌, refl}
+use Rattle.std.proofs.Common.{refl}
 use Rattle.model_text.proofs.SpellsLemmas.{no_cycle}
 use Rattle.model_text.proofs.read.graph_of.Goals as goal
 

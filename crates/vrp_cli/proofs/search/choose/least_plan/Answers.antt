@@ -11,8 +11,8 @@ use Rattle.vrp_cli.specs.Selection.{plan_of, IsFound}
 use Rattle.vrp_cli.proofs.ExchangeLemmas.{none_solves, tidied_least, are_few}
 use Rattle.vrp_cli.proofs.search.choose.least_plan.Goals as goal
 
-pub list_all-requires-clause-model : goal.list_all-requires-clause-model
-list_all-requires-clause-model c = subst (λ (m : ModelParts). IsModel m) c.model.view_is c.model.invariant
+pub list_all-requires : goal.list_all-requires
+list_all-requires c = record { model = subst (λ (m : ModelParts). IsModel m) c.model.view_is c.model.invariant }
 
 pub best_choice-requires-clause-model : goal.best_choice-requires-clause-model
 best_choice-requires-clause-model c = subst (λ (m : ModelParts). IsModel m) c.model.view_is c.model.invariant

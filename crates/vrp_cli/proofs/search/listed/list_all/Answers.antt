@@ -6,13 +6,13 @@ use Rattle.vrp_cli.specs.Listed.{Appends}
 use Rattle.vrp_cli.proofs.ListedLemmas.{graph_fits, lists_more}
 use Rattle.vrp_cli.proofs.search.listed.list_all.Goals as goal
 
-pub list_walks-requires-clause-graph : goal.list_walks-requires-clause-graph
-list_walks-requires-clause-graph c =
+pub list_walks-requires : goal.list_walks-requires
+list_walks-requires c =
     let m = c.args.model.now in
     let g = c.loop-graph.graph in
     let graph : graph_at m g ≡ c.at.result.now = sym (ap (λ (x : ModelParts). graph_at x g) c.model.view_is) ∙ c.at.ensures _ in
     let within : g < length m.graphs = omega (arith, ap (λ (x : ModelParts). length x.graphs) c.model.view_is) in
-    subst (λ (x : GraphParts). IsGraph x) graph (graph_fits m g c.requires.model within).graph
+    record { graph = subst (λ (x : GraphParts). IsGraph x) graph (graph_fits m g c.requires.model within).graph }
 
 pub loop-graph-preserved : goal.loop-graph-preserved
 loop-graph-preserved c =
