@@ -8,3 +8,4 @@ pub mod LevelLemmas
 pub mod SetBitsLemmas
 pub mod SetBitsMade
 pub mod SetBitsExamples
+mod Examples
