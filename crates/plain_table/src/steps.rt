@@ -65,8 +65,9 @@ fn extend_over_all<S: Space>(
     ensures wall { result ≡ Ok Step.Wall → IsAtWall (S.rules space.now) limit filling.new }
     ensures next { filling.new.next ≡ filling.old.next }
 {
+    let choices = space.degree(&label);
     let mut fates = Vec::new(alloc);
-    for arc in 0..space.degree(&label) {
+    for arc in 0..choices {
         let origin = Origin { parent, arc };
         match extend_once(alloc, space, limit, origin, label, &mut fates, filling)? {
             Step::Went => {}

@@ -27,6 +27,6 @@ returns-clause-went g c = λ _.
     ∙ ap (λ t. set_at t c.args.parent (with_turn (Done c.from_vec.result) here.0)) c.as_mut_slice.ensures.value
     ∙ ap (λ fates. set_at f.cells.items c.args.parent (with_turn (Done fates) here.0)) c.from_vec.ensures in
     let all : length c.loop-arc.fates.items ≡ r.degree c.args.label
-    = let n = c.loop-arc.invariant.noted in let d = c.degree-arc-end.ensures in let h = c.loop-arc-test.false in let b = c.loop-arc.auto.arc-end in omega arith in
+    = let n = c.loop-arc.invariant.noted in let d = c.degree-choices.ensures in let h = c.loop-arc-test.false in let b = c.loop-arc.auto.arc-end in omega arith in
     subst (λ (t : Cells g.row.S-Label.Denot). Fills r c.args.limit t f.order.items f.next) (sym is)
     (finishes r c.args.limit f.cells.items f.order.items f.next c.args.parent c.args.label c.loop-arc.fates.items now here.0 here.1 all)
