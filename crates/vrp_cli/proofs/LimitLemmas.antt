@@ -173,6 +173,7 @@ row_can_hold m plan values i model l le sol =
     low_side : (low high : Option ℤ) (x y : ℤ) → IsBetween low high x → x ≤ℤ y → IsBetween low None y
     low_side None high x y h le = (tt, tt)
     low_side (Some l) high x y h le = (omega (arith, ints, h.0, le), tt)
+
     high_side : (low high : Option ℤ) (x y : ℤ) → IsBetween low high x → y ≤ℤ x → IsBetween None high y
     high_side low None x y h le = (tt, tt)
     high_side low (Some l) x y h le = (tt, omega (arith, ints, h.1, le))

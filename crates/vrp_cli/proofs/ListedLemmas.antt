@@ -65,6 +65,7 @@ appends_more m g walks i old new w l h made =
         let is = h.added k (omega arith) in
         let same = get_or-take i walks k [] c ∙ sym (get_or-take (i + 1) walks k [] (omega arith)) in
         subst (λ (x : ListedWalk). IsListed m x × (x.graph ≡ g) × (x.arcs ≡ get_or (take (i + 1) walks) k [])) (sym at) (is.0, is.1, is.2 ∙ same)
+
     last : (k : ℕ) → k ≡ i → length (take i walks) ≡ i → length new ≡ length old + length (take i walks) → IsListed m (walk_at (new ++ w ∷ []) (length old + k)) × ((walk_at (new ++ w ∷ []) (length old + k)).graph ≡ g) × ((walk_at (new ++ w ∷ []) (length old + k)).arcs ≡ get_or (take (i + 1) walks) k [])
     last k e before count =
         let at = get_or_push new w no_walk (length old + k) (omega arith) in

@@ -4,8 +4,7 @@ ghost use Rattle.std.specs.Prelude.{IfOk, ◌≤◌};
 ghost use Rattle.route_model.specs.Verdicts.{IsCounted};
 
 use crate::building::build;
-use crate::least;
-use crate::texts;
+use crate::{least, texts};
 use model_text::read_model;
 use path_graph::{List, is_walk};
 use route_model::{Plan, Taken, Verdict, box_costs, judge};

@@ -60,7 +60,12 @@ fn sets_of(alloc: Global, g: &Graph, arcs: &[u32]) -> Result<List<u32>, NoMemory
 }
 
 /// A walk of a graph, with its variables and packing sets.
-fn listed(alloc: Global, model: &Model, graph: u32, arcs: &List<u32>) -> Result<ListedWalk, NoMemory>
+fn listed(
+    alloc: Global,
+    model: &Model,
+    graph: u32,
+    arcs: &List<u32>,
+) -> Result<ListedWalk, NoMemory>
     requires model { IsModel model.now }
     requires graph { graph < length model.now.graphs }
     requires walk { IsFeasibleWalk (graph_at model.now graph) arcs.now }

@@ -78,7 +78,11 @@ fn term_ends(term: &RowTerm, vars: &[Var], values: &[u64]) -> (i64, i64)
     ensures least_small { IsWithin 1000000000000 result.0 }
     ensures greatest_small { IsWithin 1000000000000 result.1 }
 {
-    product_ends(term.coef, value_at(values, term.var), high_at(vars, term.var))
+    product_ends(
+        term.coef,
+        value_at(values, term.var),
+        high_at(vars, term.var),
+    )
 }
 
 /// The least and the greatest sum of the terms of a row, while each variable goes to the high end of its box.
