@@ -50,13 +50,16 @@ fn words(rt: HostRuntime) -> Result<(), Fail> {
 fn one_word_after_the_other(rt: HostRuntime) -> Result<(), Fail> {
     let text = "var  0\t2 -3 # a note\nrow".as_bytes();
     let line = next_line(text, 0, 1).expect(&rt, "a line");
-    let mut at = line.from;
-    for expected in ["var", "0", "2", "-3"] {
-        let (from, to) = next_word(text, &line, at).expect(&rt, expected);
-        assert_eq!(rt; &text[from as usize..to as usize], expected.as_bytes());
-        at = to;
+    for (from, expected) in [
+        (0, Some((0, 3))),
+        (3, Some((5, 6))),
+        (6, Some((7, 8))),
+        (8, Some((9, 11))),
+        (11, None),
+    ] {
+        assert!(rt; line.from <= from && from <= line.to);
+        assert_eq!(rt; next_word(text, &line, from), expected, "{from}");
     }
-    assert_eq!(rt; next_word(text, &line, at), None);
     Ok(())
 }
 
