@@ -7,3 +7,4 @@ pub mod GraphLemmas
 pub mod TextLemmas
 pub mod SmallLemmas
 pub mod SpellsLemmas
+pub mod GrammarExamples

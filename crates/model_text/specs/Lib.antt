@@ -4,3 +4,10 @@ pub mod SmallForm
 pub mod Kinds
 pub mod Guess
 pub mod Bytes
+pub mod Wanted
+pub mod Draft
+pub mod FreeCycles
+pub mod LineKinds
+pub mod FirstFault
+pub mod ModelLines
+pub mod Spelling
