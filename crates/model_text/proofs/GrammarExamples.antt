@@ -1,17 +1,18 @@
 -- Worked rows of the grammar and of first faults, proved by computing.
-use Rattle.std.proofs.Common.{◌≡◌, ℕ, ◌-◌, ◌<◌, ℤ, zero, suc, arith, pos, List, [], ◌∷◌, ◌++◌, Option, None, Some, refl, Result, Ok, Err, drop, take, map, slice_set, replicate, inl, inr, ◌⊎◌, lit<}
+use Rattle.std.proofs.Common.{◌≡◌, ℕ, ◌-◌, zero, suc, arith, pos, List, [], ◌∷◌, ◌++◌, refl, Result, Ok, Err, drop, take, map, slice_set, replicate, inl, inr, ◌⊎◌, lit<}
 use Rattle.std.proofs.lemmas.List.Elements.{All-nil, All-cons}
 use Rattle.std.specs.Prelude.{codes}
 use Rattle.std.specs.Fmt.{digits}
 use Rattle.std.specs.List.{flat_map}
 use Rattle.path_graph.specs.declared.parts.GraphArc.{GraphArc}
-use Rattle.path_graph.specs.Fit.{int_at}
-use Rattle.path_graph.specs.Walk.{GraphParts, arc_at}
+use Rattle.path_graph.specs.Walk.{GraphParts}
 use Rattle.route_model.specs.Parts.{ModelParts}
 use Rattle.model_text.specs.declared.kind.Kind.{Kind}
 use Rattle.model_text.specs.declared.kind.Kind.TheVariants as fault
 use Rattle.model_text.specs.declared.kind.TextFault.{TextFault}
-use Rattle.model_text.specs.Draft.{Draft, Variables, empty_draft, parts_of}
+use Rattle.model_text.specs.declared.draft.Stage.TheVariants.{Variables}
+use Rattle.model_text.specs.declared.draft.Draft.{Draft}
+use Rattle.model_text.specs.Draft.{empty_draft, parts_of}
 use Rattle.model_text.specs.LineKinds.{version_words}
 use Rattle.model_text.specs.FirstFault.{line_read, text_read}
 use Rattle.model_text.specs.FreeCycles.{IsFree, HasFreeCycle}

@@ -1,5 +1,5 @@
 -- The first fault of a model text.
-use Rattle.std.specs.Prelude.{◌≡◌, ℕ, ◌+◌, ◌^◌, ◌<◌, ◌≤◌, ◌⊎◌, List, [], ◌∷◌, Bool, true, false, ◌==◌, ◌&&◌, if◌then◌else◌, count_by, Option, None, Some, Result, Ok, Err, All, Any}
+use Rattle.std.specs.Prelude.{◌≡◌, ℕ, ◌+◌, ◌^◌, ◌<◌, ◌≤◌, ◌⊎◌, List, [], ◌∷◌, Bool, true, false, ◌==◌, if◌then◌else◌, count_by, Option, None, Some, Result, Ok, Err, Any}
 use Rattle.std.specs.Cmp.Lexicographic.{pointwise}
 use Rattle.std.specs.Str.{bytes_eq}
 use Rattle.route_model.specs.Parts.{ModelParts}
@@ -9,8 +9,12 @@ use Rattle.model_text.specs.declared.kind.Kind.{Kind}
 use Rattle.model_text.specs.declared.kind.Kind.TheVariants as fault
 use Rattle.model_text.specs.declared.kind.TextFault.{TextFault}
 use Rattle.model_text.specs.Wanted.{Words}
-use Rattle.model_text.specs.Draft.{Stage, Opening, Variables, Ended, Draft, empty_draft, parts_of}
-use Rattle.model_text.specs.LineKinds.{LineKind, version_words, kind_of, may_stand, passes_limit, further_wanted}
+use Rattle.model_text.specs.declared.draft.Stage.{Stage}
+use Rattle.model_text.specs.declared.draft.Stage.TheVariants.{Opening, Variables, Ended}
+use Rattle.model_text.specs.declared.draft.Draft.{Draft}
+use Rattle.model_text.specs.declared.line_kind.LineKind.{LineKind}
+use Rattle.model_text.specs.Draft.{empty_draft, parts_of}
+use Rattle.model_text.specs.LineKinds.{version_words, kind_of, may_stand, passes_limit, further_wanted}
 use Rattle.model_text.specs.FreeCycles.{HasFreeCycle}
 
 -- no word is left; a word too many is Word

@@ -7,6 +7,7 @@ pub mod Bytes
 pub mod Wanted
 pub mod Draft
 pub mod FreeCycles
+pub mod LineWords
 pub mod LineKinds
 pub mod FirstFault
 pub mod ModelLines

@@ -1,5 +1,5 @@
 -- The words of the lines of a model, with numbers in printed form.
-use Rattle.std.specs.Prelude.{ℕ, ℤ, List, [], ◌∷◌, ◌++◌, Option, None, Some, decimal, map, codes, length}
+use Rattle.std.specs.Prelude.{ℕ, List, [], ◌∷◌, ◌++◌, decimal, map, codes, length}
 use Rattle.std.specs.List.{flat_map, zip}
 use Rattle.std.specs.Fmt.{signed_decimal}
 use Rattle.path_graph.specs.declared.parts.Vertex.{Vertex}

@@ -1,8 +1,10 @@
 //! Texts of models and plans: reading, printing, and the kinds of faults.
 #![tactic(auto)]
 
+mod draft;
 mod guess;
 mod kind;
+mod line_kind;
 mod print;
 mod read;
 mod reading;
