@@ -1,7 +1,7 @@
 //! Lines, words and numbers.
 
 use std::test::Fail;
-use vrp_lex::{Amount, Line, bad_byte, next_line, next_word, number, word};
+use vrp_lex::{Amount, Line, bad_byte, next_line, number, split_word, word};
 
 #[test]
 fn lines(rt: HostRuntime) -> Result<(), Fail> {
@@ -48,17 +48,15 @@ fn words(rt: HostRuntime) -> Result<(), Fail> {
 
 #[test]
 fn one_word_after_the_other(rt: HostRuntime) -> Result<(), Fail> {
-    let text = "var  0\t2 -3 # a note\nrow".as_bytes();
-    let line = next_line(text, 0, 1).expect(&rt, "a line");
-    for (from, expected) in [
-        (0, Some((0, 3))),
-        (3, Some((5, 6))),
-        (6, Some((7, 8))),
-        (8, Some((9, 11))),
-        (11, None),
+    for (text, expected) in [
+        ("", None),
+        ("\t # a b", None),
+        ("var", Some(("var", ""))),
+        (" var  0\t2", Some(("var", "  0\t2"))),
+        ("0#2", Some(("0", "#2"))),
     ] {
-        assert!(rt; line.from <= from && from <= line.to);
-        assert_eq!(rt; next_word(text, &line, from), expected, "{from}");
+        let expected = expected.map(|(first, rest)| (first.as_bytes(), rest.as_bytes()));
+        assert_eq!(rt; split_word(text.as_bytes()), expected, "{text}");
     }
     Ok(())
 }

@@ -9,7 +9,7 @@ use Rattle.std.proofs.Math.Seq.{take-add}
 use Rattle.std.proofs.lemmas.List.Splits.{slice_split_none, slice_split_at}
 use Rattle.std.proofs.lemmas.List.Elements.{All-nil, All-cons}
 use Rattle.vrp_lex.specs.Text.{is_blank, is_plain, ends_word, outside_comment, is_some_bytes, words_of}
-use Rattle.vrp_lex.specs.Places.{IsFirstWord, IsNextWord, IsWordAt}
+use Rattle.vrp_lex.specs.Places.{IsFirstWord, IsWordAt}
 use Rattle.vrp_lex.proofs.SliceLemmas.{slice_from, length-slice, take_cut, slice-slice, take-slice, drop-slice}
 
 -- a blank begins no comment
@@ -180,18 +180,6 @@ pub record IsWordEnd (xs : List ℕ) (at k : ℕ) : Type 0 where
 
 pub word_end_here : (xs : List ℕ) → IsWordEnd xs 0 0
 word_end_here xs = record { within = omega arith; closed = record { meet = λ r ends. refl }; meets = inl refl; count = refl }
-
-pub next_of : (text : List ℕ) (from to : ℕ) (word : ℕ × ℕ) → from ≤ to → to ≤ length text → IsFirstWord (slice_range text from to) word → IsNextWord text from to (from + word.0, from + word.1)
-next_of text from to word order within first =
-    let size = length-slice text from to within in
-    let places = first.ordered in
-    record {
-      ordered = (omega arith, omega (arith, places), omega (arith, places, size));
-      blanks = rw (← (take-slice text from to word.0 (omega (arith, places, size)))) first.blanks;
-      words =
-          words_of-first (slice_range text from to) word first
-          ∙ rw (slice-slice text from to word.0 word.1 (omega (arith, places)) (omega (arith, places, size)), drop-slice text from to word.1 (omega (arith, places, size))) refl;
-    }
 
 -- the parts before and at the word that follows the end of a word
 grown_at : (xs : List ℕ) (at k : ℕ) (word : ℕ × ℕ) → IsWordEnd xs at k → IsFirstWord (drop at xs) word → Meets (take at xs) (take word.0 (drop at xs) ++ (slice_range (drop at xs) word.0 word.1 ++ drop word.1 (drop at xs)))

@@ -21,12 +21,6 @@ pub record IsInText (text : List ℕ) (line : Line) : Type 0 where
 abbrev pub bytes_of : List ℕ → Line → List ℕ
 bytes_of text line = slice_range text line.from line.to
 
--- the next word from a place of a line: blanks, the word between the two places, and then the other words of the line
-pub record IsNextWord (text : List ℕ) (from to : ℕ) (word : ℕ × ℕ) : Type 0 where
-  pub ordered : (from ≤ word.0) × (word.0 < word.1) × (word.1 ≤ to)
-  pub blanks : IsTrue (list_all is_blank (slice_range text from word.0))
-  pub words : words_of (slice_range text from to) ≡ slice_range text word.0 word.1 ∷ words_of (slice_range text word.1 to)
-
 -- the word of this number, counted from 0: so many words, then the word between the two places, and then the other words
 pub record IsWordAt (text : List ℕ) (from to k : ℕ) (word : ℕ × ℕ) : Type 0 where
   pub ordered : (from ≤ word.0) × (word.0 < word.1) × (word.1 ≤ to)

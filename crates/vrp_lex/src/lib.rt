@@ -10,4 +10,4 @@ mod words;
 
 pub use lines::{Line, bad_byte, next_line};
 pub use numbers::{Amount, number};
-pub use words::{next_word, word};
+pub use words::{split_word, word};

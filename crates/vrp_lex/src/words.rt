@@ -1,7 +1,7 @@
-ghost use Rattle.std.specs.Prelude.{◌≡◌, ℕ, ◌-◌, ◌^◌, ◌<◌, ◌≤◌, [], true, false, length, take, drop, slice_index, slice_range, IsTrue, MatchOption};
+ghost use Rattle.std.specs.Prelude.{◌≡◌, ℕ, ◌-◌, ◌^◌, ◌<◌, ◌≤◌, [], ◌∷◌, true, false, length, take, drop, slice_index, slice_range, IsTrue, MatchOption};
 ghost use Rattle.std.specs.List.{list_all};
 ghost use Rattle.vrp_lex.specs.Text.{words_of, is_blank, is_plain, ends_word};
-ghost use Rattle.vrp_lex.specs.Places.{IsInText, bytes_of, IsFirstWord, IsNextWord, IsWordAt};
+ghost use Rattle.vrp_lex.specs.Places.{IsInText, bytes_of, IsFirstWord, IsWordAt};
 
 use crate::lines::Line;
 
@@ -57,24 +57,20 @@ fn first_word(bytes: &[u8]) -> Option<(usize, usize)>
     Some((blanks, blanks + size))
 }
 
-/// The next word of the line from a place of the line: its first place, and the place after it.
+/// The first word of bytes of a line, and the bytes behind it, which have the other words.
 ///
 /// So the words of a line are read one after the other in a time that is linear in the line.
-pub fn next_word(text: &[u8], line: &Line, from: u32) -> Option<(u32, u32)>
-    requires short { length text.now < 2 ^ 32 - 1 }
-    requires line { IsInText text.now line.now }
-    requires after { line.now.from ≤ from }
-    requires before { from ≤ line.now.to }
-    ensures { MatchOption result (words_of (slice_range text.now from line.now.to) ≡ [])
-        (IsNextWord text.now from line.now.to) }
+pub fn split_word(bytes: &[u8]) -> Option<(&[u8], &[u8])>
+    ensures { MatchOption result (words_of bytes.now ≡ [])
+        (λ parts. words_of bytes.now ≡ parts.0.now ∷ words_of parts.1.now) }
 {
-    let (begin, end) = first_word(&text[from as usize..line.to as usize])?;
-    Some((from + begin as u32, from + end as u32))
+    let (begin, end) = first_word(bytes)?;
+    Some((&bytes[begin..end], &bytes[end..]))
 }
 
 /// The word of this number, counted from 0: its first place, and the place after it.
 ///
-/// The time is linear in the line. `next_word` reads one word after the other.
+/// The time is linear in the line. `split_word` reads one word after the other.
 pub fn word(text: &[u8], line: &Line, k: u32) -> Option<(u32, u32)>
     requires short { length text.now < 2 ^ 32 - 1 }
     requires line { IsInText text.now line.now }
