@@ -8,3 +8,4 @@ pub mod TextLemmas
 pub mod SmallLemmas
 pub mod SpellsLemmas
 pub mod GrammarExamples
+pub mod WantedLemmas

@@ -5,8 +5,10 @@ pub mod Kinds
 pub mod Guess
 pub mod Bytes
 pub mod Wanted
+pub mod Gives
 pub mod Draft
 pub mod FreeCycles
+pub mod Totals
 pub mod LineWords
 pub mod LineKinds
 pub mod FirstFault

@@ -75,6 +75,6 @@ further_wanted line.Vertex d number = do
   vertex ← vertex_wanted d.sets d.current
   give (in_section d (with_vertex d.current vertex))
 further_wanted line.Arc d number = do
-  arc ← arc_wanted d.vars d.current
+  arc ← arc_wanted (length d.vars) d.current
   give (in_section d (with_arc d.current arc.0 arc.1))
 further_wanted line.End d number = give (record d { stage = Ended; done = sections_of d; end = number })

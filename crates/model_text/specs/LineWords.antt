@@ -1,5 +1,5 @@
 -- What is wanted of the words behind the first word of a line.
-use Rattle.std.specs.Prelude.{ℕ, ◌+◌, ℤ, pos, neg_ℤ, unsigned_abs, int_lt, List, [], ◌∷◌, length, codes, Bool, true, false, ◌==◌, ◌||◌, ◌&&◌, not, nat_lt, is_some, if◌then◌else◌, Option, None, Some, sum_by, map}
+use Rattle.std.specs.Prelude.{ℕ, ◌+◌, ◌-◌, ℤ, pos, neg_ℤ, unsigned_abs, int_lt, List, [], ◌∷◌, length, codes, Bool, true, false, ◌==◌, ◌||◌, ◌&&◌, not, nat_lt, is_some, if◌then◌else◌, Option, None, Some, sum_by, option_map, slice_get}
 use Rattle.std.specs.Str.{bytes_eq}
 use Rattle.path_graph.specs.declared.parts.Window.{Window}
 use Rattle.path_graph.specs.declared.parts.Vertex.{Vertex}
@@ -37,18 +37,20 @@ abbrev pub are_reversed : Option ℤ → Option ℤ → Bool
 are_reversed (Some low) (Some high) = int_lt high low
 are_reversed _ _ = false
 
--- a number is above the last one before it, if there is one
-abbrev pub is_above_last : List ℕ → ℕ → Bool
-is_above_last [] n = true
-is_above_last (last ∷ []) n = nat_lt last n
-is_above_last (first ∷ second ∷ others) n = is_above_last (second ∷ others) n
+-- the last of the things before, if there is one, and a number that is above the last
+abbrev pub last_of : {A : Type 0} → List A → Option A
+last_of xs = slice_get xs (length xs - 1)
+
+abbrev pub is_above : Option ℕ → ℕ → Bool
+is_above None n = true
+is_above (Some last) n = nat_lt last n
 
 -- VARIABLE COEFFICIENT of a row, after the terms of the row that stand before; the terms of all rows are at most 1,000,000,
 -- and the absolute coefficients of a variable over all rows sum to at most 1,048,576
 abbrev pub term_wanted : List Var → List Row → List RowTerm → Wants RowTerm
 term_wanted vars rows terms = do
   var ← known_below (length vars)
-  fault_if fault.Order (not (is_above_last (map (λ t. t.var) terms) var))
+  fault_if fault.Order (not (is_above (option_map (λ t. t.var) (last_of terms)) var))
   coef ← number_in (neg_ℤ (pos 1000000)) (pos 1000000)
   fault_if fault.TooMany (not (nat_lt (sum_by (λ row. length row.terms) rows + length terms) 1000000))
   fault_if fault.TooMany (nat_lt 1048576 (total_coef rows var + unsigned_abs coef))
@@ -98,16 +100,16 @@ window_wanted = do
   fault_if fault.Window (int_lt high low)
   give (record { low = low; high = high })
 
--- for each main resource, then for each secondary one; the positions that have no resource take no word
-abbrev pub for_resources : {A : Type 0} → Ends → A → (ℕ → Wants A) → Wants (List A)
-for_resources ends none wanted = for_each (λ k. if is_used_at ends k then wanted k else give none) positions
+-- the window at a position; one that has no resource takes no word
+abbrev pub window_at : Ends → ℕ → Wants Window
+window_at ends k = if is_used_at ends k then window_wanted else give (record { low = pos 0; high = pos 0 })
 
 -- `vertex SET`, then LOW HIGH for each resource; the vertex gets the next number, and the source and the sink are in no set
 abbrev pub vertex_wanted : ℕ → Section → Wants Vertex
 vertex_wanted sets s = do
   set ← set_wanted sets
   fault_if fault.Ends (is_some set && (length s.vertices == s.ends.source || length s.vertices == s.ends.sink))
-  windows ← for_resources s.ends (record { low = pos 0; high = pos 0 }) (λ k. window_wanted)
+  windows ← for_each (window_at s.ends) positions
   give (record { set = set; windows = windows })
 
 -- the consumption at a position; the main ones, at positions 0 and 1, are not negative
@@ -117,21 +119,24 @@ need_wanted k = do
   fault_if fault.MainNegative (nat_lt k 2 && int_lt need (pos 0))
   give need
 
+abbrev pub need_at : Ends → ℕ → Wants ℤ
+need_at ends k = if is_used_at ends k then need_wanted k else give (pos 0)
+
 -- a mapped variable of an arc, after those before it, of which there are at most 16
-abbrev pub mapped_wanted : List Var → List ℕ → Wants ℕ
+abbrev pub mapped_wanted : ℕ → List ℕ → Wants ℕ
 mapped_wanted vars mapped = do
-  var ← known_below (length vars)
-  fault_if fault.Order (not (is_above_last mapped var))
+  var ← known_below vars
+  fault_if fault.Order (not (is_above (last_of mapped) var))
   fault_if fault.TooMany (not (nat_lt (length mapped) 16))
   give var
 
 -- `arc TAIL HEAD`, then a consumption for each resource, then the mapped variables; none leads out of the sink or into the source
-abbrev pub arc_wanted : List Var → Section → Wants (GraphArc × List ℕ)
+abbrev pub arc_wanted : ℕ → Section → Wants (GraphArc × List ℕ)
 arc_wanted vars s = do
   tail ← known_below (length s.vertices)
   fault_if fault.Ends (tail == s.ends.sink)
   head ← known_below (length s.vertices)
   fault_if fault.Ends (head == s.ends.source)
-  needs ← for_resources s.ends (pos 0) need_wanted
+  needs ← for_each (need_at s.ends) positions
   mapped ← to_the_end (mapped_wanted vars)
   give (record { tail = tail; head = head; needs = needs }, mapped)

@@ -5,7 +5,7 @@ use Rattle.std.specs.Fmt.{signed_decimal}
 use Rattle.route_model.specs.Parts.{ModelParts}
 use Rattle.route_model.specs.Fit.{IsModel}
 use Rattle.vrp_lex.specs.Text.{lines_of, words_of, has_bad_byte, number_of}
-use Rattle.model_text.specs.Wanted.{Words}
+use Rattle.model_text.specs.Wanted.{Words, are_some_words}
 use Rattle.model_text.specs.LineKinds.{version_words}
 use Rattle.model_text.specs.FreeCycles.{HasFreeCycle}
 use Rattle.model_text.specs.ModelLines.{sets_words, model_lines}
@@ -13,10 +13,6 @@ use Rattle.model_text.specs.ModelLines.{sets_words, model_lines}
 -- a number in printed form: without leading zeros, and 0 without `-`; any other word stays as it is
 abbrev pub in_printed_form : List ℕ → List ℕ
 in_printed_form word = option_map_or signed_decimal (number_of word) word
-
-abbrev pub are_some_words : Words → Bool
-are_some_words [] = false
-are_some_words (w ∷ words) = true
 
 -- the lines of a text that have words, as their words
 abbrev pub lines_with_words : List ℕ → List Words

@@ -1,11 +1,15 @@
 -- What is wanted of the words of a line, one after the other, and the kind of the first fault.
-use Rattle.std.specs.Prelude.{ℕ, zero, suc, ℤ, pos, unsigned_abs, int_lt, List, [], ◌∷◌, ◌++◌, length, Bool, ◌||◌, not, nat_lt, if◌then◌else◌, Option, None, Some, Result, Ok, Err}
+use Rattle.std.specs.Prelude.{ℕ, zero, suc, ℤ, pos, unsigned_abs, int_lt, List, [], ◌∷◌, ◌++◌, length, Bool, true, false, ◌||◌, not, nat_lt, if◌then◌else◌, Option, None, Some, Result, Ok, Err}
 use Rattle.vrp_lex.specs.Text.{number_of}
 use Rattle.model_text.specs.declared.kind.Kind.{Kind}
 use Rattle.model_text.specs.declared.kind.Kind.TheVariants as fault
 
 abbrev pub Words : Type 0
 Words = List (List ℕ)
+
+abbrev pub are_some_words : Words → Bool
+are_some_words [] = false
+are_some_words (w ∷ words) = true
 
 -- a value of the first words that are left, and the words after them; or a fault
 abbrev pub Wants : Type 0 → Type 0

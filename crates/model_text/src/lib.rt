@@ -2,12 +2,15 @@
 #![tactic(auto)]
 
 mod draft;
+mod graph_words;
 mod guess;
 mod kind;
 mod line_kind;
+mod line_words;
 mod print;
 mod read;
 mod reading;
+mod wanted;
 mod writer;
 
 pub use kind::{Kind, ReadError, TextFault};
