@@ -10,7 +10,7 @@ use Rattle.path_graph.specs.Walk.{positions}
 use Rattle.route_model.specs.declared.parts.Var.{Var}
 use Rattle.route_model.specs.declared.parts.RowTerm.{RowTerm}
 use Rattle.route_model.specs.declared.parts.Row.{Row}
-use Rattle.route_model.specs.Fit.{total_coef}
+use Rattle.route_model.specs.Fit.{row_coef, total_coef}
 use Rattle.model_text.specs.declared.kind.Kind.TheVariants as fault
 use Rattle.model_text.specs.declared.draft.Section.{Section}
 use Rattle.model_text.specs.Wanted.{Wants, ◌>>=◌, ◌>>◌, give, fault_if, word, limited_word, known_word, number_in, natural_in, known_below, for_each, to_the_end}
@@ -53,7 +53,7 @@ term_wanted vars rows terms = do
   fault_if fault.Order (not (is_above (option_map (λ t. t.var) (last_of terms)) var))
   coef ← number_in (neg_ℤ (pos 1000000)) (pos 1000000)
   fault_if fault.TooMany (not (nat_lt (sum_by (λ row. length row.terms) rows + length terms) 1000000))
-  fault_if fault.TooMany (nat_lt 1048576 (total_coef rows var + unsigned_abs coef))
+  fault_if fault.TooMany (nat_lt 1048576 (total_coef rows var + row_coef var terms + unsigned_abs coef))
   give (record { var = var; coef = coef })
 
 -- `row LOW HIGH`, then pairs VARIABLE COEFFICIENT

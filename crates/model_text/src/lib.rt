@@ -10,6 +10,7 @@ mod line_words;
 mod print;
 mod read;
 mod reading;
+mod row_words;
 mod wanted;
 mod writer;
 
