@@ -1,5 +1,9 @@
+ghost use Rattle.std.specs.Prelude.{◌≡◌};
+ghost use Rattle.model_text.specs.Draft.{is_in_graph};
+
 use path_graph::{Ends, GraphArc, List, Vertex};
 use route_model::{Row, Var};
+use std::alloc::Global;
 
 /// Where in a model text the next line stands.
 #[derive(Clone, Copy, Debug, PartialEq, Eq)]
@@ -44,4 +48,57 @@ pub struct Draft {
     pub done: List<Section>,
     pub current: Section,
     pub end: u32,
+}
+
+impl Stage {
+    /// Whether the lines of a graph are read.
+    pub fn is_in_graph(self) -> bool
+        ensures { result ≡ is_in_graph self }
+    {
+        matches!(self, Stage::Vertices | Stage::Arcs)
+    }
+}
+
+impl Section {
+    ghost use Rattle.model_text.specs.Draft.{begun_section};
+
+    /// A graph of which the graph line alone is read.
+    pub fn new(alloc: Global, count: u32, ends: Ends) -> Section
+        ensures { result ≡ begun_section count ends }
+    {
+        Section {
+            count,
+            ends,
+            vertices: List::new(alloc),
+            arcs: List::new(alloc),
+            maps: List::new(alloc),
+        }
+    }
+}
+
+impl Draft {
+    ghost use Rattle.model_text.specs.Draft.{empty_draft};
+
+    /// Before the first line.
+    pub fn new(alloc: Global) -> Draft
+        ensures { result ≡ empty_draft }
+    {
+        let ends = Ends {
+            source: 0,
+            sink: 0,
+            low: 0,
+            high: 0,
+            mains: 0,
+            seconds: 0,
+        };
+        Draft {
+            stage: Stage::Opening,
+            vars: List::new(alloc),
+            rows: List::new(alloc),
+            sets: 0,
+            done: List::new(alloc),
+            current: Section::new(alloc, 0, ends),
+            end: 0,
+        }
+    }
 }

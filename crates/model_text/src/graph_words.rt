@@ -5,6 +5,7 @@ ghost use Rattle.path_graph.specs.Walk.{positions};
 ghost use Rattle.model_text.specs.Wanted.{give};
 ghost use Rattle.model_text.specs.LineWords.{last_of, is_above, graph_wanted, window_at, need_at, vertex_wanted, mapped_wanted, arc_wanted};
 ghost use Rattle.model_text.specs.Wanted.{for_each, to_the_end};
+ghost use Rattle.model_text.specs.Totals.{path_total};
 ghost use Rattle.model_text.specs.Gives.{Gives, IsShorter};
 
 use crate::draft::Section;
@@ -17,7 +18,7 @@ use std::alloc::Global;
 /// The sum of the high path counts.
 fn path_total(sections: &[Section]) -> u64
     requires few { length sections.now ≤ 64 }
-    ensures { result ≡ sum_by (λ s. s.ends.high) sections.now }
+    ensures { result ≡ path_total sections.now }
 {
     sections.iter().map(|s| u64::from(s.ends.high)).sum()
 }
@@ -28,8 +29,11 @@ pub fn graph_of<'a>(
     sections: &[Section],
 ) -> Result<((u32, Ends), &'a [u8]), LineFault>
     requires few { length sections.now ≤ 64 }
-    requires paths { sum_by (λ s. s.ends.high) sections.now ≤ 4096 }
-    ensures { Gives (λ x. (x.0, words_of x.1.now)) result (graph_wanted sections.now (words_of words.now)) }
+    requires paths { path_total sections.now ≤ 4096 }
+    ensures gives { Gives (λ x. (x.0, words_of x.1.now)) result
+        (graph_wanted sections.now (words_of words.now)) }
+    ensures count { IfOk result (λ x. (0 < x.0.0) × (x.0.0 ≤ 1024)) }
+    ensures paths { IfOk result (λ x. path_total sections.now + x.0.1.high ≤ 4096) }
 {
     let (count, words) = natural_in(words, 2, 1_024)?;
     let (source, words) = known_below(words, count)?;

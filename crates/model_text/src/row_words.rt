@@ -1,4 +1,4 @@
-ghost use Rattle.std.specs.Prelude.{◌≡◌, ℕ, ◌<◌, ◌≤◌, ◌++◌, ◌∷◌, [], length, map, option_map, IfOk, OnOk};
+ghost use Rattle.std.specs.Prelude.{◌≡◌, ℕ, ◌+◌, ◌<◌, ◌≤◌, ◌++◌, ◌∷◌, [], length, map, option_map, IfOk, OnOk};
 ghost use Rattle.vrp_lex.specs.Text.{words_of};
 ghost use Rattle.model_text.specs.Wanted.{to_the_end};
 ghost use Rattle.model_text.specs.LineWords.{last_of, is_above, term_wanted, row_wanted};
@@ -40,6 +40,7 @@ fn term_of<'a>(
     ensures shorter { IfOk result (λ x. IsShorter words.now x.1.now) }
     ensures coefs { IfOk result (λ x.
         AreCoefs coefs.new draft.now.vars draft.now.rows (terms.now ++ x.0 ∷ [])) }
+    ensures few_terms { IfOk result (λ x. total + length terms.now < 1000000) }
 {
     let (var, words) = known_below(words, draft.vars.len() as u32)?;
     fault_if(
@@ -67,6 +68,7 @@ fn terms_of<'a>(
     ensures gives { Gives (λ x. (x.0, words_of x.1.now)) result
         (to_the_end (term_wanted draft.now.vars draft.now.rows) (words_of words.now)) }
     ensures coefs { IfOk result (λ x. AreCoefs coefs.new draft.now.vars draft.now.rows x.0) }
+    ensures few_terms { IfOk result (λ x. term_total draft.now.rows + length x.0 ≤ 1000000) }
 {
     let total = term_total(draft.rows.as_slice());
     let mut terms = List::new(alloc);
@@ -93,6 +95,7 @@ pub fn row_of<'a>(
     ensures gives { Gives (λ x. (x.0, words_of x.1.now)) result
         (row_wanted draft.now.vars draft.now.rows (words_of words.now)) }
     ensures coefs { IfOk result (λ x. AreCoefs coefs.new draft.now.vars draft.now.rows x.0.terms) }
+    ensures few_terms { IfOk result (λ x. term_total draft.now.rows + length x.0.terms ≤ 1000000) }
 {
     let (low, words) = side_of(words)?;
     let (high, words) = side_of(words)?;
