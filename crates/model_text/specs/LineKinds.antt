@@ -7,7 +7,7 @@ use Rattle.model_text.specs.declared.draft.Draft.{Draft}
 use Rattle.model_text.specs.declared.line_kind.LineKind.{LineKind}
 use Rattle.model_text.specs.declared.line_kind.LineKind.TheVariants as line
 use Rattle.model_text.specs.Wanted.{Words, Wants, ◌>>=◌, give}
-use Rattle.model_text.specs.Draft.{begun_section, with_vertex, with_arc, in_section, sections_of}
+use Rattle.model_text.specs.Draft.{no_section, begun_section, with_vertex, with_arc, in_section, sections_of}
 use Rattle.model_text.specs.LineWords.{var_wanted, row_wanted, sets_wanted, graph_wanted, vertex_wanted, arc_wanted}
 
 -- The words of the version line, which are the first words of a text.
@@ -77,4 +77,5 @@ further_wanted line.Vertex d number = do
 further_wanted line.Arc d number = do
   arc ← arc_wanted (length d.vars) d.current
   give (in_section d (with_arc d.current arc.0 arc.1))
-further_wanted line.End d number = give (record d { stage = Ended; done = sections_of d; end = number })
+further_wanted line.End d number =
+    give (record d { stage = Ended; done = sections_of d; current = no_section; end = number })

@@ -60,7 +60,7 @@ impl Stage {
 }
 
 impl Section {
-    ghost use Rattle.model_text.specs.Draft.{begun_section};
+    ghost use Rattle.model_text.specs.Draft.{begun_section, no_section};
 
     /// A graph of which the graph line alone is read.
     pub fn new(alloc: Global, count: u32, ends: Ends) -> Section
@@ -74,14 +74,10 @@ impl Section {
             maps: List::new(alloc),
         }
     }
-}
 
-impl Draft {
-    ghost use Rattle.model_text.specs.Draft.{empty_draft};
-
-    /// Before the first line.
-    pub fn new(alloc: Global) -> Draft
-        ensures { result ≡ empty_draft }
+    /// No graph.
+    pub fn none(alloc: Global) -> Section
+        ensures { result ≡ no_section }
     {
         let ends = Ends {
             source: 0,
@@ -91,13 +87,24 @@ impl Draft {
             mains: 0,
             seconds: 0,
         };
+        Section::new(alloc, 0, ends)
+    }
+}
+
+impl Draft {
+    ghost use Rattle.model_text.specs.Draft.{empty_draft};
+
+    /// Before the first line.
+    pub fn new(alloc: Global) -> Draft
+        ensures { result ≡ empty_draft }
+    {
         Draft {
             stage: Stage::Opening,
             vars: List::new(alloc),
             rows: List::new(alloc),
             sets: 0,
             done: List::new(alloc),
-            current: Section::new(alloc, 0, ends),
+            current: Section::none(alloc),
             end: 0,
         }
     }

@@ -2,6 +2,7 @@
 #![tactic(auto)]
 
 mod draft;
+mod further;
 mod graph_words;
 mod guess;
 mod kind;

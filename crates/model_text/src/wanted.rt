@@ -5,6 +5,7 @@ ghost use Rattle.model_text.specs.Gives.{Gives, IsShorter, IsWithinEnds};
 
 use crate::kind::Kind;
 use path_graph::NoMemory;
+use std::alloc::AllocFailed;
 use vrp_lex::{Amount, number, split_word};
 
 /// Why a line is not read.
@@ -20,6 +21,16 @@ impl From<NoMemory> for LineFault {
     ghost from_gives = { λ _ e. e ≡ Memory };
 
     fn from(_error: NoMemory) -> LineFault {
+        LineFault::Memory
+    }
+}
+
+impl<T: Drop> From<AllocFailed<T>> for LineFault {
+    ghost use Rattle.model_text.specs.declared.wanted.LineFault.TheVariants.{Memory};
+
+    ghost from_gives = { λ _ e. e ≡ Memory };
+
+    fn from(_error: AllocFailed<T>) -> LineFault {
         LineFault::Memory
     }
 }
