@@ -26,7 +26,7 @@ abbrev pub arc_total : List Section → ℕ
 arc_total sections = sum_by (λ s. length s.arcs) sections
 
 -- no limit is passed so far
-pub record IsUnderway (d : Draft) (coefs : List ℕ) : Type 0 where
+pub record IsUnderway (d : Draft) : Type 0 where
   pub vars : length d.vars ≤ 30000
   pub first_row : d.stage ≡ Variables → d.rows ≡ []
   pub terms : term_total d.rows ≤ 1000000
@@ -36,4 +36,8 @@ pub record IsUnderway (d : Draft) (coefs : List ℕ) : Type 0 where
   pub count : d.current.count ≤ 1024
   pub vertices : length d.current.vertices ≤ d.current.count
   pub to_come : d.stage ≡ Vertices → length d.current.vertices < d.current.count
-  pub coefs_are : AreCoefs coefs d.vars d.rows []
+
+-- a line changes neither variables nor rows
+pub record KeepsVarsAndRows (old new : Draft) : Type 0 where
+  pub vars : new.vars ≡ old.vars
+  pub rows : new.rows ≡ old.rows
