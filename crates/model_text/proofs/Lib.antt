@@ -9,3 +9,4 @@ pub mod SmallLemmas
 pub mod SpellsLemmas
 pub mod GrammarExamples
 pub mod WantedLemmas
+pub mod ReaderLemmas

@@ -3,7 +3,7 @@ use Rattle.std.specs.Prelude.{◌≡◌, ℕ, ◌+◌, ◌<◌, [], ◌≤◌, L
 use Rattle.route_model.specs.declared.parts.Var.{Var}
 use Rattle.route_model.specs.declared.parts.RowTerm.{RowTerm}
 use Rattle.route_model.specs.declared.parts.Row.{Row}
-use Rattle.model_text.specs.declared.draft.Stage.TheVariants.{Variables, Vertices}
+use Rattle.model_text.specs.declared.draft.Stage.TheVariants.{Opening, Variables, Vertices}
 use Rattle.model_text.specs.declared.draft.Section.{Section}
 use Rattle.model_text.specs.declared.draft.Draft.{Draft}
 use Rattle.model_text.specs.Draft.{sections_of}
@@ -28,6 +28,7 @@ arc_total sections = sum_by (λ s. length s.arcs) sections
 -- no limit is passed so far
 pub record IsUnderway (d : Draft) : Type 0 where
   pub vars : length d.vars ≤ 30000
+  pub no_row_yet : d.stage ≡ Opening → d.rows ≡ []
   pub first_row : d.stage ≡ Variables → d.rows ≡ []
   pub terms : term_total d.rows ≤ 1000000
   pub graphs : length (sections_of d) ≤ 64

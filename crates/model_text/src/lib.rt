@@ -8,6 +8,7 @@ mod guess;
 mod kind;
 mod line_kind;
 mod line_words;
+mod lines;
 mod print;
 mod read;
 mod reading;
