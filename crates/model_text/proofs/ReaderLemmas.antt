@@ -1,11 +1,12 @@
 -- Lines that are read one after the other.
-use Rattle.std.proofs.Common.{◌≡◌, ℕ, ◌+◌, List, [], ◌∷◌, refl, ap, sym, ◌∙◌, Result, Ok, Err}
+use Rattle.std.proofs.Common.{◌≡◌, ℕ, ◌+◌, List, ◌∷◌, refl, ap, sym, ◌∙◌, Result, Ok, Err}
 use Rattle.model_text.specs.declared.draft.Stage.{Stage}
 use Rattle.model_text.specs.declared.draft.Stage.TheVariants.{Opening, Variables, Rows, Sets, Vertices, Arcs, Ended}
 use Rattle.model_text.specs.declared.draft.Draft.{Draft}
+use Rattle.model_text.specs.declared.kind.TextFault.{TextFault}
 use Rattle.model_text.specs.Wanted.{Words}
 use Rattle.model_text.specs.LineKinds.{kind_of}
-use Rattle.model_text.specs.FirstFault.{line_within, words_read}
+use Rattle.model_text.specs.FirstFault.{line_within, words_read, line_read, at_line, lines_read}
 
 -- a line with words between the version line and the end
 pub words_read-within : (d : Draft) (stage : Stage) (n : ℕ) (words : Words) (first : List ℕ) (rest : Words) → (stage ≡ Opening → ⊥) → (stage ≡ Ended → ⊥) → words ≡ first ∷ rest → words_read d stage n words ≡ line_within d n rest (kind_of first)
@@ -19,3 +20,14 @@ words_read-within d stage n words first rest opened ended is = ap (words_read d 
     within Vertices opened ended = refl
     within Arcs opened ended = refl
     within Ended opened ended = absurd (ended refl)
+
+-- the lines from a number on, of which those before are read
+pub lines_left : (d e : Draft) (n : ℕ) (line : List ℕ) (lines all : List (List ℕ)) (whole : Result Draft TextFault) → all ≡ line ∷ lines → lines_read d n all ≡ whole → at_line n (line_read d n line) ≡ Ok e → lines_read e (n + 1) lines ≡ whole
+lines_left d e n line lines all whole is same read =
+    let cut : lines_read d n (line ∷ lines) ≡ whole = rw is at same in
+    rw read at cut
+
+pub lines_fault : (d : Draft) (n : ℕ) (line : List ℕ) (lines all : List (List ℕ)) (whole : Result Draft TextFault) (f : TextFault) → all ≡ line ∷ lines → lines_read d n all ≡ whole → at_line n (line_read d n line) ≡ Err f → whole ≡ Err f
+lines_fault d n line lines all whole f is same read =
+    let cut : lines_read d n (line ∷ lines) ≡ whole = rw is at same in
+    sym (rw read at cut)

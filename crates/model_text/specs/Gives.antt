@@ -1,7 +1,10 @@
 -- What a call that reads words of a line returned.
-use Rattle.std.specs.Prelude.{◌≡◌, ℕ, ◌<◌, length, ℤ, ◌≤ℤ◌, List, Result, Ok, Err, IfOk}
+use Rattle.std.specs.Prelude.{◌≡◌, ℕ, ◌<◌, length, ℤ, ◌≤ℤ◌, List, Result, Ok, Err}
 use Rattle.vrp_lex.specs.Text.{words_of}
 use Rattle.model_text.specs.declared.kind.Kind.{Kind}
+use Rattle.model_text.specs.declared.kind.TextFault.{TextFault}
+use Rattle.model_text.specs.declared.kind.ReadError.{ReadError}
+use Rattle.model_text.specs.declared.kind.ReadError.TheVariants as read
 use Rattle.model_text.specs.declared.wanted.LineFault.{LineFault}
 use Rattle.model_text.specs.declared.wanted.LineFault.TheVariants.{Fault, Memory}
 
@@ -22,3 +25,12 @@ IsShorter old new = length (words_of new) < length (words_of old)
 -- a number is not outside its limits
 abbrev pub IsWithinEnds : ℤ → ℤ → ℤ → Type 0
 IsWithinEnds low high z = (low ≤ℤ z) × (z ≤ℤ high)
+
+-- the same for a whole text
+abbrev pub FailsText : {Y : Type 0} → ReadError → Result Y TextFault → Type 0
+FailsText read.Memory reading = Unit {0}
+FailsText (read.Text fault) reading = reading ≡ Err fault
+
+abbrev pub GivesText : {X Y : Type 0} → (X → Y) → Result X ReadError → Result Y TextFault → Type 0
+GivesText view (Ok x) reading = reading ≡ Ok (view x)
+GivesText view (Err e) reading = FailsText e reading

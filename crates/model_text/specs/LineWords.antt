@@ -1,5 +1,5 @@
 -- What is wanted of the words behind the first word of a line.
-use Rattle.std.specs.Prelude.{ℕ, ◌+◌, ◌-◌, ℤ, pos, neg_ℤ, unsigned_abs, int_lt, List, [], ◌∷◌, length, codes, Bool, true, false, ◌==◌, ◌||◌, ◌&&◌, not, nat_lt, is_some, if◌then◌else◌, Option, None, Some, sum_by, option_map, slice_get}
+use Rattle.std.specs.Prelude.{ℕ, ◌+◌, ◌-◌, ℤ, pos, neg_ℤ, unsigned_abs, int_lt, List, length, codes, Bool, true, false, ◌==◌, ◌||◌, ◌&&◌, not, nat_lt, is_some, if◌then◌else◌, Option, None, Some, sum_by, option_map, slice_get}
 use Rattle.std.specs.Str.{bytes_eq}
 use Rattle.path_graph.specs.declared.parts.Window.{Window}
 use Rattle.path_graph.specs.declared.parts.Vertex.{Vertex}

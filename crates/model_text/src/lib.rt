@@ -14,6 +14,7 @@ mod read;
 mod reading;
 mod row_words;
 mod wanted;
+mod whole;
 mod writer;
 
 pub use kind::{Kind, ReadError, TextFault};
