@@ -20,14 +20,3 @@ words_read-within d stage n words first rest opened ended is = ap (words_read d 
     within Vertices opened ended = refl
     within Arcs opened ended = refl
     within Ended opened ended = absurd (ended refl)
-
--- the lines from a number on, of which those before are read
-pub lines_left : (d e : Draft) (n : ℕ) (line : List ℕ) (lines all : List (List ℕ)) (whole : Result Draft TextFault) → all ≡ line ∷ lines → lines_read d n all ≡ whole → at_line n (line_read d n line) ≡ Ok e → lines_read e (n + 1) lines ≡ whole
-lines_left d e n line lines all whole is same read =
-    let cut : lines_read d n (line ∷ lines) ≡ whole = rw is at same in
-    rw read at cut
-
-pub lines_fault : (d : Draft) (n : ℕ) (line : List ℕ) (lines all : List (List ℕ)) (whole : Result Draft TextFault) (f : TextFault) → all ≡ line ∷ lines → lines_read d n all ≡ whole → at_line n (line_read d n line) ≡ Err f → whole ≡ Err f
-lines_fault d n line lines all whole f is same read =
-    let cut : lines_read d n (line ∷ lines) ≡ whole = rw is at same in
-    sym (rw read at cut)

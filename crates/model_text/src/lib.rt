@@ -18,5 +18,6 @@ mod whole;
 mod writer;
 
 pub use kind::{Kind, ReadError, TextFault};
+pub use print::print_model;
 pub use read::read_model;
 pub use writer::LineWriter;
