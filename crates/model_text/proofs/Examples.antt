@@ -37,7 +37,7 @@ arc tail head q =
     record { tail = tail; head = head; needs = q ∷ pos 0 ∷ pos 0 ∷ pos 0 ∷ pos 0 ∷ pos 0 ∷ [] }
 
 -- two customers, each visited once, on at most two paths
-abbrev two_customers : ModelParts
+abbrev pub two_customers : ModelParts
 two_customers =
     record {
       vars =
@@ -59,7 +59,7 @@ two_customers =
       maps = ((0 ∷ []) ∷ (1 ∷ []) ∷ (2 ∷ []) ∷ (3 ∷ []) ∷ (4 ∷ []) ∷ (5 ∷ []) ∷ []) ∷ [];
     }
 
-abbrev two_customers_text : List ℕ
+abbrev pub two_customers_text : List ℕ
 two_customers_text =
     codes "vrpmodel 1\n"
     ++ codes "var 0 2 3\n"
@@ -91,7 +91,7 @@ pub two_customers_read : parts_of (guess_of two_customers_text) ≡ two_customer
 two_customers_read = refl
 
 -- two graphs of which one has a secondary resource and the other two main ones, two sets, open sides
-abbrev two_graphs : ModelParts
+abbrev pub two_graphs : ModelParts
 two_graphs =
     record {
       vars = var (pos 0) (pos 5) (neg_ℤ (pos 3)) ∷ var (pos 1) (pos 1) (pos 0) ∷ [];
@@ -136,7 +136,9 @@ two_graphs =
       maps = ((0 ∷ []) ∷ (0 ∷ 1 ∷ []) ∷ []) ∷ ([] ∷ []) ∷ [];
     }
 
-pub two_graphs_printed : model_text two_graphs ≡ codes "vrpmodel 1\n"
+abbrev pub two_graphs_text : List ℕ
+two_graphs_text =
+    codes "vrpmodel 1\n"
     ++ codes "var 0 5 -3\n"
     ++ codes "var 1 1 0\n"
     ++ codes "row * 7 0 -2 1 4\n"
@@ -154,6 +156,8 @@ pub two_graphs_printed : model_text two_graphs ≡ codes "vrpmodel 1\n"
     ++ codes "vertex - 0 1 0 2\n"
     ++ codes "arc 1 0 1 0\n"
     ++ codes "end\n"
+
+pub two_graphs_printed : model_text two_graphs ≡ two_graphs_text
 unfolding digits
 two_graphs_printed = refl
 

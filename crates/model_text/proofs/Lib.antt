@@ -7,3 +7,6 @@ pub mod GraphLemmas
 pub mod TextLemmas
 pub mod SmallLemmas
 pub mod SpellsLemmas
+pub mod GrammarExamples
+pub mod WantedLemmas
+pub mod ReaderLemmas

@@ -4,3 +4,13 @@ pub mod SmallForm
 pub mod Kinds
 pub mod Guess
 pub mod Bytes
+pub mod Wanted
+pub mod Gives
+pub mod Draft
+pub mod FreeCycles
+pub mod Totals
+pub mod LineWords
+pub mod LineKinds
+pub mod FirstFault
+pub mod ModelLines
+pub mod Spelling

@@ -204,3 +204,14 @@ pub fn printed(alloc: Global, model: &Model) -> Result<LineWriter, NoMemory>
     text.first(b"end\n")?;
     Ok(text)
 }
+
+/// The printed text of a model: the one text in printed form that spells it.
+///
+/// There is one blank between words, no comment, no leading zero, and LF after each line. The line of the sets is left
+/// out where there are none. The time is linear in the text.
+pub fn print_model(alloc: Global, model: &Model) -> Result<List<u8>, NoMemory>
+    ensures { IfOk result (λ bytes. bytes ≡ model_text model.now) }
+{
+    let text = printed(alloc, model)?;
+    Ok(text.into_list())
+}

@@ -1,0 +1,5 @@
+pub mod Digits
+pub mod WordLemmas
+pub mod LineLemmas
+pub mod SliceLemmas
+pub mod Examples
