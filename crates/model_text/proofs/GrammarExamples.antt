@@ -1,6 +1,5 @@
 -- Worked rows of the grammar and of first faults, proved by computing.
-use Rattle.std.proofs.Common.{◌≡◌, ℕ, ◌-◌, zero, suc, arith, pos, List, [], ◌∷◌, ◌++◌, refl, Result, Ok, Err, drop, take, map, slice_set, replicate, inl, inr, ◌⊎◌, lit<}
-use Rattle.std.proofs.lemmas.List.Elements.{All-nil, All-cons}
+use Rattle.std.proofs.Common.{◌≡◌, ℕ, ◌-◌, arith, pos, List, [], ◌∷◌, ◌++◌, refl, Result, Ok, Err, drop, take, map, slice_set, replicate, lit<}
 use Rattle.std.specs.Prelude.{codes}
 use Rattle.std.specs.Fmt.{digits}
 use Rattle.std.specs.List.{flat_map}
@@ -15,7 +14,7 @@ use Rattle.model_text.specs.declared.draft.Draft.{Draft}
 use Rattle.model_text.specs.Draft.{empty_draft, parts_of}
 use Rattle.model_text.specs.LineKinds.{version_words}
 use Rattle.model_text.specs.FirstFault.{line_read, text_read}
-use Rattle.model_text.specs.FreeCycles.{IsFree, HasFreeCycle}
+use Rattle.model_text.specs.FreeCycles.{HasFreeCycle}
 use Rattle.model_text.specs.ModelLines.{sets_words, model_lines}
 use Rattle.model_text.specs.Spelling.{lines_with_words, in_printed_form}
 use Rattle.model_text.proofs.Examples.{two_customers, two_customers_text, two_graphs, two_graphs_text}
@@ -307,20 +306,5 @@ with_cycle =
       arcs = free 0 1 ∷ free 1 2 ∷ free 2 1 ∷ [];
     }
 
-main_free : (a : ℕ) → (a ≡ 1) ⊎ (a ≡ 2) → IsFree with_cycle a
-main_free a (inl e) zero main = rw e refl
-main_free a (inl e) (suc zero) main = rw e refl
-main_free a (inl e) (suc (suc k)) main = absurd (omega arith)
-main_free a (inr e) zero main = rw e refl
-main_free a (inr e) (suc zero) main = rw e refl
-main_free a (inr e) (suc (suc k)) main = absurd (omega arith)
-
 cycle : HasFreeCycle with_cycle
-cycle =
-    record {
-      vertex = 1;
-      first = 1;
-      others = 2 ∷ [];
-      leads = (lit< tt, refl, (lit< tt, refl, refl));
-      free = All-cons (IsFree with_cycle) 1 (2 ∷ []) (main_free 1 (inl refl)) (All-cons (IsFree with_cycle) 2 [] (main_free 2 (inr refl)) (All-nil (IsFree with_cycle)));
-    }
+cycle = (1 ∷ 2 ∷ [], record { vertex = 1; some = omega arith; leads = (lit< tt, refl, refl, (lit< tt, refl, refl, refl)) })

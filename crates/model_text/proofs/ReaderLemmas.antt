@@ -1,12 +1,11 @@
 -- Lines that are read one after the other.
-use Rattle.std.proofs.Common.{◌≡◌, ℕ, ◌+◌, List, ◌∷◌, refl, ap, sym, ◌∙◌, Result, Ok, Err}
+use Rattle.std.proofs.Common.{◌≡◌, ℕ, List, ◌∷◌, refl, ap, ◌∙◌}
 use Rattle.model_text.specs.declared.draft.Stage.{Stage}
 use Rattle.model_text.specs.declared.draft.Stage.TheVariants.{Opening, Variables, Rows, Sets, Vertices, Arcs, Ended}
 use Rattle.model_text.specs.declared.draft.Draft.{Draft}
-use Rattle.model_text.specs.declared.kind.TextFault.{TextFault}
 use Rattle.model_text.specs.Wanted.{Words}
 use Rattle.model_text.specs.LineKinds.{kind_of}
-use Rattle.model_text.specs.FirstFault.{line_within, words_read, line_read, at_line, lines_read}
+use Rattle.model_text.specs.FirstFault.{line_within, words_read}
 
 -- a line with words between the version line and the end
 pub words_read-within : (d : Draft) (stage : Stage) (n : ℕ) (words : Words) (first : List ℕ) (rest : Words) → (stage ≡ Opening → ⊥) → (stage ≡ Ended → ⊥) → words ≡ first ∷ rest → words_read d stage n words ≡ line_within d n rest (kind_of first)

@@ -1,5 +1,5 @@
 -- Which texts spell which model.
-use Rattle.std.specs.Prelude.{◌≡◌, ℕ, ◌⊎◌, List, [], ◌∷◌, map, filter, All, Any, false}
+use Rattle.std.specs.Prelude.{◌≡◌, ℕ, ◌⊎◌, List, [], ◌∷◌, map, filter, All, false}
 use Rattle.std.specs.Option.{option_map_or}
 use Rattle.std.specs.Fmt.{signed_decimal}
 use Rattle.route_model.specs.Parts.{ModelParts}
@@ -7,7 +7,6 @@ use Rattle.route_model.specs.Fit.{IsModel}
 use Rattle.vrp_lex.specs.Text.{lines_of, words_of, has_bad_byte, number_of}
 use Rattle.model_text.specs.Wanted.{Words, are_some_words}
 use Rattle.model_text.specs.LineKinds.{version_words}
-use Rattle.model_text.specs.FreeCycles.{HasFreeCycle}
 use Rattle.model_text.specs.ModelLines.{sets_words, model_lines}
 
 -- a number in printed form: without leading zeros, and 0 without `-`; any other word stays as it is
@@ -32,4 +31,3 @@ pub record Spells (text : List ℕ) (m : ModelParts) : Type 0 where
   pub sets_part : IsSetsPart m.sets sets
   pub words : map (map in_printed_form) lines ≡ model_lines m sets
   pub model : IsModel m
-  pub no_cycle : ¬ (Any HasFreeCycle m.graphs)
