@@ -10,3 +10,9 @@ pub mod SpellsLemmas
 pub mod GrammarExamples
 pub mod WantedLemmas
 pub mod ReaderLemmas
+pub mod FitLemmas
+pub mod RowFitLemmas
+pub mod GraphFitLemmas
+pub mod DraftFitLemmas
+pub mod LineFitLemmas
+pub mod TextFitLemmas
