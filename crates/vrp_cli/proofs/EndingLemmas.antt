@@ -1,18 +1,13 @@
 -- Lemmas on the endings of a run.
 use Rattle.std.proofs.Common.{◌≡◌, ℕ, ◌≤◌, List, [], ◌∷◌, length, Option, IsTrue, Bool, map, get_or, arith, sym, ◌∙◌, ap, subst, ℤ}
-use Rattle.std.specs.Prelude.{codes}
-use Rattle.std.specs.Fmt.{decimal, digits}
 use Rattle.std.specs.Str.{bytes_eq}
 use Rattle.std.proofs.lemmas.Slice.Eq.{bytes_eq-Decides}
 use Rattle.std.proofs.KnownBytes.{Consumes-whole}
 use Rattle.vrp_io.specs.Bytes.{TookAll}
 use Rattle.route_model.specs.declared.plan.Taken.{Taken}
 use Rattle.route_model.specs.Parts.{ModelParts}
-use Rattle.model_text.specs.declared.kind.TextFault.{TextFault}
-use Rattle.model_text.specs.declared.kind.Kind.TheVariants.{Unbuilt}
-use Rattle.model_text.specs.Kinds.{kind_number, kind_name}
-use Rattle.model_text.specs.Lines.{line}
-use Rattle.model_text.specs.SmallForm.{Spells, SpellsNothing}
+use Rattle.model_text.specs.Spelling.{Spells}
+use Rattle.model_text.specs.Refusal.{IsRefusedFor}
 use Rattle.vrp_cli.specs.declared.answer.Answer.{Answer}
 use Rattle.vrp_cli.specs.declared.answer.Answer.TheVariants.{Optimal, Infeasible, Words, Model, ReadFailed, Memory, TooLong}
 use Rattle.vrp_cli.specs.Headline.{IsLeastPlan, AreTaken, input_limit, optimal_text, TellsLeast, SpellsInfeasible, ReadWhole, Answers, optimal, infeasible, model_refused}
@@ -52,13 +47,7 @@ answers_input words old new fo fn input (Optimal text) taken took kept few holds
 answers_input words old new fo fn input Infeasible taken took kept few holds = infeasible taken (read_whole old new fo fn input SpellsInfeasible took kept few holds)
 answers_input words old new fo fn input Words taken took kept few holds = absurd holds
 answers_input words old new fo fn input (Model text) taken took kept few holds =
-    subst (λ (t : List ℕ). Answers words old new fo fn 3 t) (sym holds.1) (model_refused taken (read_whole old new fo fn input SpellsNothing took kept few holds.0))
+    subst (λ (t : List ℕ). Answers words old new fo fn 3 t) (sym holds.2) (model_refused holds.0 taken (read_whole old new fo fn input (IsRefusedFor holds.0) took kept few holds.1))
 answers_input words old new fo fn input ReadFailed taken took kept few holds = absurd holds
 answers_input words old new fo fn input Memory taken took kept few holds = absurd holds
 answers_input words old new fo fn input TooLong taken took kept few holds = absurd holds
-
--- the text of the one refusal of a model
-pub refusal_told : (fault : TextFault) → fault ≡ record { line = 1; kind = Unbuilt } → line (codes "refused") (codes "model" ∷ decimal fault.line ∷ decimal (kind_number fault.kind) ∷ kind_name fault.kind ∷ []) ≡ codes "refused model 1 17 Unbuilt\n"
-unfolding digits
-refusal_told fault is =
-    ap (λ (f : TextFault). line (codes "refused") (codes "model" ∷ decimal f.line ∷ decimal (kind_number f.kind) ∷ kind_name f.kind ∷ [])) is

@@ -1,9 +1,10 @@
 -- The status and the text of an answer, and what one says of the input.
 use Rattle.std.specs.Prelude.{◌≡◌, ℕ, List, codes}
-use Rattle.model_text.specs.SmallForm.{SpellsNothing}
+use Rattle.model_text.specs.declared.kind.TextFault.{TextFault}
+use Rattle.model_text.specs.Refusal.{IsRefusedFor}
 use Rattle.vrp_cli.specs.declared.answer.Answer.{Answer}
 use Rattle.vrp_cli.specs.declared.answer.Answer.TheVariants.{Optimal, Infeasible, Words, Model, ReadFailed, Memory, TooLong}
-use Rattle.vrp_cli.specs.Headline.{TellsLeast, SpellsInfeasible}
+use Rattle.vrp_cli.specs.Headline.{TellsLeast, SpellsInfeasible, refused_model_text}
 
 abbrev pub status_of : Answer → ℕ
 status_of (Optimal text) = 0
@@ -28,7 +29,7 @@ abbrev pub AnswersInput : List ℕ → Answer → Type 0
 AnswersInput input (Optimal text) = TellsLeast text input
 AnswersInput input Infeasible = SpellsInfeasible input
 AnswersInput input Words = ⊥
-AnswersInput input (Model text) = SpellsNothing input × (text ≡ codes "refused model 1 17 Unbuilt\n")
+AnswersInput input (Model text) = (fault : TextFault) × IsRefusedFor fault input × (text ≡ refused_model_text fault)
 AnswersInput input ReadFailed = ⊥
 AnswersInput input Memory = ⊥
 AnswersInput input TooLong = ⊥

@@ -1,7 +1,7 @@
 -- How a run of the program ends, and what each ending says.
 use Rattle.std.specs.Prelude.{◌≡◌, ℕ, ◌+◌, ◌<◌, ◌≤◌, ◌⊎◌, ℤ, List, [], ◌∷◌, ◌++◌, length, codes, Option, IfSome}
 use Rattle.std.specs.List.{flat_map}
-use Rattle.std.specs.Fmt.{signed_decimal}
+use Rattle.std.specs.Fmt.{decimal, signed_decimal}
 use Rattle.std.specs.Io.KnownBytes.{IsAtEnd, Appends}
 use Rattle.vrp_io.specs.Counts.{Rose}
 use Rattle.vrp_io.specs.Bytes.{TookAtMost, TookExactly, AppendedPrefix}
@@ -11,7 +11,10 @@ use Rattle.route_model.specs.Quantities.{cost_of}
 use Rattle.route_model.specs.Solution.{IsSolution, IsLeast, HasNoSolution}
 use Rattle.route_model.specs.Tidy.{IsTidy}
 use Rattle.model_text.specs.Lines.{line, path_line}
-use Rattle.model_text.specs.SmallForm.{Spells, SpellsNothing}
+use Rattle.model_text.specs.declared.kind.TextFault.{TextFault}
+use Rattle.model_text.specs.Kinds.{kind_number, kind_name}
+use Rattle.model_text.specs.Spelling.{Spells, SpellsNothing}
+use Rattle.model_text.specs.Refusal.{IsRefusedFor}
 
 -- a tidy plan that is a solution, of which none costs less, and its cost
 pub record IsLeastPlan (m : ModelParts) (cost : ℤ) (plan : List Taken) : Type 0 where
@@ -30,6 +33,11 @@ input_limit = 67108864
 -- `optimal COST`, then the lines of the paths
 abbrev pub optimal_text : ℤ → List Taken → List ℕ
 optimal_text cost plan = line (codes "optimal") (signed_decimal cost ∷ []) ++ flat_map path_line plan
+
+-- `refused model LINE NUMBER KIND`
+abbrev pub refused_model_text : TextFault → List ℕ
+refused_model_text fault =
+    line (codes "refused") (codes "model" ∷ decimal fault.line ∷ decimal (kind_number fault.kind) ∷ kind_name fault.kind ∷ [])
 
 -- the input spells a model, and the text tells a tidy plan that is a solution of it, of which none costs less, and its cost
 pub record TellsLeast (text input : List ℕ) : Type 0 where
@@ -57,7 +65,7 @@ pub data Answers (words : List (List ℕ)) (old new : Option (List ℕ)) (faults
   optimal : (text : List ℕ) → AreTaken words → ReadWhole old new faults_old faults_new (TellsLeast text) → Answers words old new faults_old faults_new 0 text
   infeasible : AreTaken words → ReadWhole old new faults_old faults_new SpellsInfeasible → Answers words old new faults_old faults_new 1 (codes "infeasible\n")
   words_refused : (AreTaken words → ⊥) → Answers words old new faults_old faults_new 2 (codes "refused words\n")
-  model_refused : AreTaken words → ReadWhole old new faults_old faults_new SpellsNothing → Answers words old new faults_old faults_new 3 (codes "refused model 1 17 Unbuilt\n")
+  model_refused : (fault : TextFault) → AreTaken words → ReadWhole old new faults_old faults_new (IsRefusedFor fault) → Answers words old new faults_old faults_new 3 (refused_model_text fault)
   read_failed : AreTaken words → Rose faults_old faults_new → Answers words old new faults_old faults_new 7 (codes "fault read\n")
   no_memory : AreTaken words → TookAtMost old new input_limit → faults_new ≡ faults_old → Answers words old new faults_old faults_new 9 (codes "fault memory\n")
   too_long : AreTaken words → TookExactly old new (input_limit + 1) → faults_new ≡ faults_old → Answers words old new faults_old faults_new 10 (codes "refused input too long\n")
@@ -78,6 +86,10 @@ pub record Runs (words : List (List ℕ)) (left_old left_new : Option (List ℕ)
 -- what was written is the cost and the tidy path lines of a least solution of the model that the input spells
 abbrev pub WroteLeast : Option (List ℕ) → Option (List ℕ) → List ℕ → Type 0
 WroteLeast old new input = (text : List ℕ) × TellsLeast text input × Appends old new text
+
+-- what was written is the first fault of the input, which spells no model
+abbrev pub WroteFault : Option (List ℕ) → Option (List ℕ) → List ℕ → Type 0
+WroteFault old new input = (fault : TextFault) × IsRefusedFor fault input × Appends old new (refused_model_text fault)
 
 -- the status that is due on an input: by its length, then by whether it spells a model, then by whether that has a solution
 abbrev pub IsDue : ℕ → List ℕ → Type 0

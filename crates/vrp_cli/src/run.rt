@@ -3,8 +3,7 @@ ghost use Rattle.std.specs.Io.KnownBytes.{Appends};
 ghost use Rattle.vrp_io.specs.Counts.{Rose};
 ghost use Rattle.vrp_io.specs.Bytes.{TookExactly};
 ghost use Rattle.route_model.specs.Parts.{ModelParts};
-ghost use Rattle.model_text.specs.SmallForm.{Spells, SpellsNothing};
-ghost use Rattle.vrp_cli.specs.Headline.{AreTaken, input_limit, Answers, Tells, Runs, WroteLeast, SpellsInfeasible, IsDue};
+ghost use Rattle.vrp_cli.specs.Headline.{AreTaken, input_limit, Answers, Tells, Runs, WroteLeast, WroteFault, SpellsInfeasible, IsDue};
 ghost use Rattle.vrp_cli.specs.Answer.{status_of, text_of};
 
 use crate::answer::Answer;
@@ -48,7 +47,8 @@ pub fn run_vrp<R: Threads + Sync, S: Source, K: Sink, G: Gate + Sync>(
     ensures infeasible { result.number ≡ 1 → IfSome (S.left source.old) SpellsInfeasible
         × Appends (K.written sink.old) (K.written sink.new) (codes "infeasible\n") }
     ensures words { result.number ≡ 2 → AreTaken (map string_bytes words.now) → ⊥ }
-    ensures model { result.number ≡ 3 → IfSome (S.left source.old) SpellsNothing }
+    ensures model { result.number ≡ 3 → IfSome (S.left source.old)
+        (WroteFault (K.written sink.old) (K.written sink.new)) }
     ensures read { result.number ≡ 7 → Rose (S.faults source.old) (S.faults source.new) }
     ensures write { result.number ≡ 8 → Rose (K.faults sink.old) (K.faults sink.new) }
     ensures long { result.number ≡ 10 →

@@ -1,9 +1,8 @@
-ghost use Rattle.std.specs.Prelude.{◌≡◌, ◌∷◌, [], ◌++◌, codes, IfOk, OnOk};
+ghost use Rattle.std.specs.Prelude.{◌≡◌, ◌∷◌, [], ◌++◌, ◌<◌, ◌^◌, ◌-◌, length, codes, IfOk, OnOk};
 ghost use Rattle.std.specs.List.{flat_map};
-ghost use Rattle.std.specs.Fmt.{decimal, signed_decimal};
+ghost use Rattle.std.specs.Fmt.{signed_decimal};
 ghost use Rattle.model_text.specs.Lines.{line, path_line};
-ghost use Rattle.model_text.specs.Kinds.{kind_number, kind_name};
-ghost use Rattle.vrp_cli.specs.Headline.{optimal_text};
+ghost use Rattle.vrp_cli.specs.Headline.{optimal_text, refused_model_text};
 ghost use Rattle.vrp_cli.specs.Answer.{AnswersInput};
 
 use crate::answer::Answer;
@@ -15,6 +14,7 @@ use std::alloc::Global;
 
 /// What `solve` answers to an input.
 pub(crate) fn solve(alloc: Global, input: &[u8]) -> Result<Answer, NoMemory>
+    requires { length input.now < 2 ^ 32 - 1 }
     ensures { IfOk result (AnswersInput input.now) }
 {
     let model = match read_model(alloc, input) {
@@ -57,8 +57,7 @@ fn write_paths(text: &mut LineWriter, paths: &[Taken]) -> Result<(), NoMemory>
 
 /// `refused model LINE NUMBER KIND`
 fn refusal_text(alloc: Global, fault: TextFault) -> Result<LineWriter, NoMemory>
-    ensures { IfOk result (λ text. text ≡ line (codes "refused") (codes "model"
-        ∷ decimal fault.line ∷ decimal (kind_number fault.kind) ∷ kind_name fault.kind ∷ [])) }
+    ensures { IfOk result (λ text. text ≡ refused_model_text fault) }
 {
     let mut text = LineWriter::new(alloc);
     text.first(b"refused")?;
