@@ -14,3 +14,6 @@ pub mod LineKinds
 pub mod FirstFault
 pub mod ModelLines
 pub mod Spelling
+pub mod PathText
+pub mod PathFault
+pub mod ModelEnd

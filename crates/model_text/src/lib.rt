@@ -2,6 +2,7 @@
 #![tactic(auto)]
 
 mod draft;
+mod end_line;
 mod further;
 mod graph_words;
 mod guess;
@@ -9,6 +10,9 @@ mod kind;
 mod line_kind;
 mod line_words;
 mod lines;
+mod plan_draft;
+mod plan_print;
+mod plan_read;
 mod print;
 mod read;
 mod reading;
@@ -17,7 +21,10 @@ mod wanted;
 mod whole;
 mod writer;
 
+pub use end_line::model_end;
 pub use kind::{Kind, ReadError, TextFault};
+pub use plan_print::print_plan;
+pub use plan_read::read_plan;
 pub use print::print_model;
 pub use read::read_model;
 pub use writer::LineWriter;
