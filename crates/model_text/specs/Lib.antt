@@ -16,4 +16,5 @@ pub mod ModelLines
 pub mod Spelling
 pub mod PathText
 pub mod PathFault
+pub mod PathCounts
 pub mod ModelEnd

@@ -18,15 +18,21 @@ use Rattle.model_text.specs.PathText.{SpellsNoPlan}
 abbrev pub name_wanted : Wants ℕ
 name_wanted = natural_in 0 4294967295
 
+-- one arc or more
+abbrev pub arcs_wanted : Wants (List ℕ)
+arcs_wanted = do
+  first ← name_wanted
+  others ← to_the_end (λ _. name_wanted)
+  give (first ∷ others)
+
 -- `path GRAPH COUNT ARC ..`, after the paths before; the counts of each graph sum to at most 4,096
 abbrev pub path_wanted : List Taken → Wants Taken
 path_wanted paths = do
   graph ← name_wanted
   count ← natural_in 1 4096
   fault_if fault.TooMany (nat_lt 4096 (paths_of paths graph + count))
-  first ← name_wanted
-  others ← to_the_end (λ _. name_wanted)
-  give (record { graph = graph; count = count; arcs = first ∷ others })
+  arcs ← arcs_wanted
+  give (record { graph = graph; count = count; arcs = arcs })
 
 -- nothing is read
 abbrev pub empty_plan : PlanDraft

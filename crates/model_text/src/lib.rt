@@ -10,6 +10,8 @@ mod kind;
 mod line_kind;
 mod line_words;
 mod lines;
+mod path_lines;
+mod path_words;
 mod plan_draft;
 mod plan_print;
 mod plan_read;
