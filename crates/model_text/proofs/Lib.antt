@@ -16,3 +16,4 @@ pub mod GraphFitLemmas
 pub mod DraftFitLemmas
 pub mod LineFitLemmas
 pub mod TextFitLemmas
+pub mod NumberWordLemmas
