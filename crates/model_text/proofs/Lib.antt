@@ -17,3 +17,8 @@ pub mod DraftFitLemmas
 pub mod LineFitLemmas
 pub mod TextFitLemmas
 pub mod NumberWordLemmas
+pub mod SpendLemmas
+pub mod LineSpendLemmas
+pub mod DraftLineLemmas
+pub mod LineSaidLemmas
+pub mod ReadsSpelledLemmas
