@@ -17,3 +17,9 @@ pub mod DraftFitLemmas
 pub mod LineFitLemmas
 pub mod TextFitLemmas
 pub mod EndLineLemmas
+pub mod NumberWordLemmas
+pub mod SpendLemmas
+pub mod LineSpendLemmas
+pub mod DraftLineLemmas
+pub mod LineSaidLemmas
+pub mod ReadsSpelledLemmas
