@@ -16,3 +16,9 @@ pub mod GraphFitLemmas
 pub mod DraftFitLemmas
 pub mod LineFitLemmas
 pub mod TextFitLemmas
+pub mod PlainLineLemmas
+pub mod PrintedWordLemmas
+pub mod ItemLemmas
+pub mod PrintedRowLemmas
+pub mod PrintedGraphLemmas
+pub mod PrintedTextLemmas
