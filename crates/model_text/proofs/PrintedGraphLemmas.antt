@@ -1,5 +1,5 @@
 -- Each word of the lines of graphs, vertices and arcs is printed.
-use Rattle.std.proofs.Common.{ℕ, ◌<◌, ◌≤◌, ℤ, pos, Bool, true, false, List, [], ◌∷◌, ◌++◌, length, map, take, drop, Option, None, Some, refl, arith}
+use Rattle.std.proofs.Common.{◌^◌, ℕ, ◌<◌, ◌≤◌, ℤ, pos, Bool, true, false, List, [], ◌∷◌, ◌++◌, length, map, take, drop, Option, None, Some, refl, arith}
 use Rattle.std.specs.Prelude.{All, IfSome, codes, nat_lt}
 use Rattle.std.specs.Fmt.{decimal, signed_decimal}
 use Rattle.std.specs.List.{flat_map, zip}
@@ -15,7 +15,7 @@ use Rattle.path_graph.specs.Within.{IsInLimits}
 use Rattle.route_model.specs.Fit.{MapFits}
 use Rattle.model_text.specs.ModelText.{used, set_word, window_words}
 use Rattle.model_text.specs.ModelLines.{graph_words, vertex_words, arc_words, graph_lines}
-use Rattle.model_text.proofs.PrintedWordLemmas.{IsPrinted, printed_name, IsPrintedLine, line_begins, two}
+use Rattle.model_text.proofs.PrintedWordLemmas.{IsPrinted, printed_name, IsPrintedLine, line_begins, two, printed_numbers}
 use Rattle.model_text.proofs.PrintedRowLemmas.{printed_within, printed_small}
 use Rattle.model_text.proofs.ItemLemmas.{All-flat_map, All-zip}
 
@@ -82,28 +82,28 @@ printed_arc vars count few few_vertices ends arc mapped fits map_fits =
     (printed_small arc.head (let below = fits.head in omega (arith, few_vertices)))
     (All-append IsPrinted (map signed_decimal qs) (map decimal mapped)
     (All-map IsPrinted signed_decimal qs (λ k d below. printed_limited _ (all k d below)))
-    (All-map IsPrinted decimal mapped (λ k d below. printed_small _ (let declared = map_fits.each k d below in omega (arith, few, declared))))))
+    (printed_numbers mapped (λ k d below. let declared = map_fits.each k d below in omega (arith, few, declared)))))
 
 -- graphs
 abbrev numbers_of : GraphParts → List ℕ
 numbers_of g =
     length g.vertices ∷ g.ends.source ∷ g.ends.sink ∷ g.ends.low ∷ g.ends.high ∷ g.ends.mains ∷ g.ends.seconds ∷ []
 
-few_of : (g : GraphParts) → length g.vertices ≤ 1024 → EndsFit g.ends (length g.vertices) → All (λ n. n ≤ 1000000) (numbers_of g)
-few_of g few fits =
+small_numbers : (g : GraphParts) → length g.vertices ≤ 1024 → EndsFit g.ends (length g.vertices) → All (λ n. n < 2 ^ 63) (numbers_of g)
+small_numbers g few fits =
     let source = fits.source in
     let sink = fits.sink in
     let low = fits.paths in
     let high = fits.most_paths in
     let mains = fits.mains in
     let seconds = fits.seconds in
-    All-from_recursion (λ n. n ≤ 1000000) (numbers_of g)
+    All-from_recursion (λ n. n < 2 ^ 63) (numbers_of g)
     (omega arith, (omega arith, (omega arith, (omega arith, (omega arith, (omega arith, (omega arith, tt)))))))
 
 printed_graph : (g : GraphParts) → length g.vertices ≤ 1024 → EndsFit g.ends (length g.vertices) → IsPrintedLine (graph_words g)
 printed_graph g few fits =
     line_begins (codes "graph") (map decimal (numbers_of g)) (printed_name (codes "graph") refl refl refl)
-    (All-map IsPrinted decimal (numbers_of g) (λ k d below. printed_small _ (few_of g few fits k d below)))
+    (printed_numbers (numbers_of g) (small_numbers g few fits))
 
 pub printed_graph_lines : (vars : ℕ) → vars ≤ 30000 → (g : GraphParts) (maps : List (List ℕ)) → IsGraph g → All (MapFits vars) maps → All IsPrintedLine (graph_lines g maps)
 printed_graph_lines vars few g maps graph mapped =

@@ -18,7 +18,7 @@ use Rattle.model_text.specs.ModelText.{sets_line, graph_line, vertex_line, arc_l
 use Rattle.model_text.specs.ModelLines.{var_words, row_words, sets_words, vertex_words, arc_words, graph_lines, model_lines}
 use Rattle.model_text.specs.Spelling.{lines_with_words, IsSetsPart, Spells}
 use Rattle.model_text.proofs.PlainLineLemmas.{IsPlainWord, IsPlainLine, line_of_words, text_of_lines, text_accepted, lines_with_words-text, text_of-append, text_of-flat_map}
-use Rattle.model_text.proofs.PrintedWordLemmas.{IsPrinted, printed_name, IsPrintedLine, plain_line, line_begins, lines_stay}
+use Rattle.model_text.proofs.PrintedWordLemmas.{IsPrintedLine, plain_line, lines_stay, printed_end}
 use Rattle.model_text.proofs.PrintedRowLemmas.{printed_var, printed_row, printed_sets}
 use Rattle.model_text.proofs.ItemLemmas.{All-flat_map, All-zip}
 use Rattle.model_text.proofs.PrintedGraphLemmas.{printed_graph_lines}
@@ -105,7 +105,7 @@ printed_model m is =
     (All-map IsPrintedLine row_words m.rows (λ k d below. printed_row (length m.vars) fits.vars.few _ (fits.rows.each k d below))))
     (printed_sets_lines m.sets fits.few_sets))
     (printed_graphs m is))
-    (All-cons IsPrintedLine (codes "end" ∷ []) [] (line_begins (codes "end") [] (printed_name (codes "end") refl refl refl) (All-nil IsPrinted)) (All-nil IsPrintedLine))
+    (All-cons IsPrintedLine (codes "end" ∷ []) [] printed_end (All-nil IsPrintedLine))
 
 version_is_plain : IsPlainLine version_words
 version_is_plain =

@@ -1,13 +1,13 @@
 -- Printed numbers are plain words in printed form.
 use Rattle.std.proofs.Common.{rules, ◌≡◌, ℕ, suc, ◌+◌, ◌-◌, ◌*◌, ◌^◌, ◌<◌, ℤ, pos, negsuc, true, false, List, [], ◌∷◌, fold, length, map, None, Some, refl, ap, ◌∙◌, arith}
-use Rattle.std.specs.Prelude.{◌==◌, All}
+use Rattle.std.specs.Prelude.{◌==◌, All, codes}
 use lib.Signed.{mag}
 use Rattle.std.specs.Fmt.{decimal, signed_decimal}
 use Rattle.std.specs.List.{list_all}
 use Rattle.std.specs.Option.{option_map_or}
 use Rattle.std.proofs.lemmas.Bool.{and_parts}
 use Rattle.std.proofs.lemmas.Bool.Decides.{nat_tests}
-use Rattle.std.proofs.lemmas.List.Elements.{All-cons}
+use Rattle.std.proofs.lemmas.List.Elements.{All-nil, All-cons, All-map}
 use Rattle.std.proofs.lemmas.List.Folds.{map_fixed}
 use Rattle.std.proofs.lemmas.Str.Parse.{IsNumeralModel, numerals_by_fold}
 use Rattle.std.proofs.lemmas.Fmt.{decimal_nonempty, digits_decimal, digits_value-decimal}
@@ -111,3 +111,10 @@ lines_stay lines printed =
 -- words one by one
 pub two : (a b : List ℕ) (words : Words) → IsPrinted a → IsPrinted b → All IsPrinted words → All IsPrinted (a ∷ b ∷ words)
 two a b words p q more = All-cons IsPrinted a (b ∷ words) p (All-cons IsPrinted b words q more)
+
+pub printed_numbers : (numbers : List ℕ) → All (λ n. n < 2 ^ 63) numbers → All IsPrinted (map decimal numbers)
+printed_numbers numbers small = All-map IsPrinted decimal numbers (λ k d below. printed_decimal _ (small k d below))
+
+-- the last line of a text
+pub printed_end : IsPrintedLine (codes "end" ∷ [])
+printed_end = line_begins (codes "end") [] (printed_name (codes "end") refl refl refl) (All-nil IsPrinted)
