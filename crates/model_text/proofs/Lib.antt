@@ -23,3 +23,9 @@ pub mod LineSpendLemmas
 pub mod DraftLineLemmas
 pub mod LineSaidLemmas
 pub mod ReadsSpelledLemmas
+pub mod PlainLineLemmas
+pub mod PrintedWordLemmas
+pub mod ItemLemmas
+pub mod PrintedRowLemmas
+pub mod PrintedGraphLemmas
+pub mod PrintedTextLemmas
