@@ -1,12 +1,5 @@
 pub mod Examples
 pub mod LineLemmas
-pub mod NumeralLemmas
-pub mod ReadingLemmas
-pub mod PartLemmas
-pub mod GraphLemmas
-pub mod TextLemmas
-pub mod SmallLemmas
-pub mod SpellsLemmas
 pub mod GrammarExamples
 pub mod WantedLemmas
 pub mod ReaderLemmas
@@ -16,3 +9,7 @@ pub mod GraphFitLemmas
 pub mod DraftFitLemmas
 pub mod LineFitLemmas
 pub mod TextFitLemmas
+pub mod NumberWordLemmas
+pub mod SpellsBothLemmas
+pub mod SpellsLawLemmas
+pub mod BuildLemmas

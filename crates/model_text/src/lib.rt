@@ -1,17 +1,16 @@
 //! Texts of models and plans: reading, printing, and the kinds of faults.
 #![tactic(auto)]
 
+mod built;
 mod draft;
 mod further;
 mod graph_words;
-mod guess;
 mod kind;
 mod line_kind;
 mod line_words;
 mod lines;
 mod print;
 mod read;
-mod reading;
 mod row_words;
 mod wanted;
 mod whole;

@@ -1,0 +1,11 @@
+-- (both directions come from helpers)
+use Rattle.std.proofs.Common.{ℕ, List}
+use Rattle.route_model.specs.Parts.{ModelParts}
+use Rattle.model_text.specs.FirstFault.{ReadsAs}
+use Rattle.model_text.specs.Spelling.{Spells}
+
+pub reads_spelled : (text : List ℕ) (m : ModelParts) → ReadsAs text m → Spells text m
+reads_spelled text m is = ?
+
+pub spelled_reads : (text : List ℕ) (m : ModelParts) → Spells text m → ReadsAs text m
+spelled_reads text m is = ?
