@@ -13,3 +13,9 @@ pub mod NumberWordLemmas
 pub mod SpellsBothLemmas
 pub mod SpellsLawLemmas
 pub mod BuildLemmas
+pub mod PlainLineLemmas
+pub mod PrintedWordLemmas
+pub mod ItemLemmas
+pub mod PrintedRowLemmas
+pub mod PrintedGraphLemmas
+pub mod PrintedTextLemmas
