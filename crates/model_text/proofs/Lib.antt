@@ -19,3 +19,8 @@ pub mod ItemLemmas
 pub mod PrintedRowLemmas
 pub mod PrintedGraphLemmas
 pub mod PrintedTextLemmas
+pub mod SpendLemmas
+pub mod LineSpendLemmas
+pub mod DraftLineLemmas
+pub mod LineSaidLemmas
+pub mod ReadsSpelledLemmas

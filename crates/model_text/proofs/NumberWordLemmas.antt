@@ -3,15 +3,14 @@ use Rattle.std.proofs.Common.{◌≡◌, ℕ, zero, suc, ◌+◌, ◌-◌, ◌*�
 use Rattle.std.specs.Prelude.{◌==◌}
 use native.Mathlib.Numerals.{unary_clauses}
 use Rattle.std.specs.List.{list_all}
+use lib.Signed.{mag}
 use Rattle.std.specs.Option.{option_map_or}
 use Rattle.std.specs.Fmt.{decimal, signed_decimal, digits, digits_onto, digit_glyph}
-use Rattle.std.specs.Char.{digit_value}
-use Rattle.std.specs.Str.Parse.{digits_value_after, AllDigits}
 use Rattle.std.proofs.lemmas.Bool.Decides.{nat_tests}
-use Rattle.std.proofs.lemmas.Str.Parse.{digit_from_value}
-use Rattle.std.proofs.lemmas.Fmt.{decimal_is_IsNumeral, decimal_injective, length-decimal-le}
+use Rattle.std.proofs.lemmas.Fmt.{decimal_injective, length-decimal-le}
 use Rattle.vrp_lex.specs.Text.{is_digit, are_digits, is_some_bytes, digits_value, number_of}
 use Rattle.model_text.specs.Spelling.{in_printed_form}
+use Rattle.model_text.proofs.PrintedWordLemmas.{number_of-digits, number_of-signed}
 
 -- what is written of a number is decimal digits, at least one
 glyph_is_digit : (d : ℕ) → d < 10 → is_digit (digit_glyph false d) ≡ true
@@ -77,55 +76,6 @@ decimal_some : (n : ℕ) → 1 ≤ length (decimal n)
 unfolding digits
 decimal_some n = onto_some 63 n []
 
--- the value of digits, in both ways of saying it
-digit_is : (c : ℕ) → digit_value c < 10 → digit_value c ≡ c - 48
-digit_is c h =
-    let r = digit_from_value c h in
-    let low : 48 ≤ c = r.0 in
-    let high : c ≤ 57 = r.1 in
-    grind (arith, nat_tests)
-
-same_value : (n : ℕ) (ds : List ℕ) → AllDigits 10 ds → fold (λ n b. 10 * n + (b - 48)) n ds ≡ digits_value_after 10 n ds
-same_value n [] all = refl
-same_value n (c ∷ cs) all =
-    let is = digit_is c all.0 in
-    let next : 10 * n + (c - 48) ≡ n * 10 + digit_value c = omega (arith, is) in
-    ap (λ k. fold (λ n b. 10 * n + (b - 48)) k cs) next ∙ same_value (n * 10 + digit_value c) cs all.1
-
-number_of_digits : (ds : List ℕ) (n : ℕ) → 0 < length ds → list_all is_digit ds ≡ true → digits_value ds ≡ n → number_of ds ≡ Some (pos n)
-number_of_digits [] n some all value = absurd (omega (arith, some))
-number_of_digits (b ∷ bs) n some all value =
-    let no_minus : (b == 45) ≡ false = first_digit b bs all in
-    let value' : pos (digits_value (b ∷ bs)) ≡ pos n = ap (λ k. pos k) value in
-    rw (no_minus, all, value') refl
-  where
-    digit_test : (b : ℕ) (rest : Bool) → (is_digit b && rest) ≡ true → (b == 45) ≡ false
-    digit_test b rest h = grind (arith, nat_tests, h)
-
-    first_digit : (b : ℕ) (bs : List ℕ) → list_all is_digit (b ∷ bs) ≡ true → (b == 45) ≡ false
-    first_digit b bs h = digit_test b (list_all is_digit bs) h
-
-pub number_of_decimal : (n : ℕ) → n < 10 ^ 18 → number_of (decimal n) ≡ Some (pos n)
-number_of_decimal n few =
-    let small : n < 2 ^ 64 = omega (arith, few) in
-    let is = decimal_is_IsNumeral n small in
-    number_of_digits (decimal n) n is.0.0 (decimal_digits n) (same_value 0 (decimal n) is.0.1 ∙ is.1)
-
-number_of_minus : (n : ℕ) → 0 < length (decimal n) → digits_value (decimal n) ≡ n → number_of (45 ∷ decimal n) ≡ Some (neg_ℤ (pos n))
-number_of_minus n some value = with_digits (decimal n) some (decimal_digits n) value
-  where
-    with_digits : (ds : List ℕ) → 0 < length ds → list_all is_digit ds ≡ true → digits_value ds ≡ n → number_of (45 ∷ ds) ≡ Some (neg_ℤ (pos n))
-    with_digits [] some all value = absurd (omega (arith, some))
-    with_digits (b ∷ bs) some all value = rw (all, value) refl
-
--- a number within these bounds is read back
-pub number_of_signed : (z : ℤ) → unsigned_abs z < 10 ^ 18 → number_of (signed_decimal z) ≡ Some z
-number_of_signed (pos n) few = number_of_decimal n few
-number_of_signed (negsuc n) few =
-    let small : suc n < 2 ^ 64 = omega (arith, few) in
-    let is = decimal_is_IsNumeral (suc n) small in
-    number_of_minus (suc n) is.0.0 (same_value 0 (decimal (suc n)) is.0.1 ∙ is.1)
-
 -- a word of digits is no word of a number below 0
 no_minus_first : (n m : ℕ) → decimal n ≡ 45 ∷ decimal m → ⊥
 no_minus_first n m e = with_digits (decimal n) (decimal_digits n) e
@@ -169,20 +119,27 @@ printed_natural w n is = printed_is w (pos n) is
 pub number_is : (w : List ℕ) (z : ℤ) → unsigned_abs z < 10 ^ 18 → in_printed_form w ≡ signed_decimal z → number_of w ≡ Some z
 number_is w z few e = by_number (number_of w) refl e
   where
+    small : (z : ℤ) → unsigned_abs z < 10 ^ 18 → mag z < 2 ^ 63
+    small (pos n) h = omega (arith, h)
+    small (negsuc n) h = omega (arith, h)
+
     by_number : (o : Option ℤ) → number_of w ≡ o → option_map_or signed_decimal o w ≡ signed_decimal z → number_of w ≡ Some z
-    by_number None is e = absurd (none_at_once (sym is ∙ (ap number_of e ∙ number_of_signed z few)))
-      where
-        none_at_once : ◌≡◌ {A = Option ℤ} None (Some z) → ⊥
-        none_at_once h = cc
+    by_number None is e =
+        let clash : ◌≡◌ {A = Option ℤ} None (Some z) = sym is ∙ (ap number_of e ∙ number_of-signed z (small z few)) in
+        cc
     by_number (Some y) is e = is ∙ ap (λ k. Some k) (signed_same y z few e)
 
 pub natural_is : (w : List ℕ) (n : ℕ) → n < 10 ^ 18 → in_printed_form w ≡ decimal n → number_of w ≡ Some (pos n)
 natural_is w n few e = number_is w (pos n) few e
 
 -- every number is written as a number
+some_bytes : (ds : List ℕ) → 1 ≤ length ds → is_some_bytes ds ≡ true
+some_bytes [] some = absurd (omega (arith, some))
+some_bytes (b ∷ bs) some = refl
+
 some_number : (ds : List ℕ) → 1 ≤ length ds → list_all is_digit ds ≡ true → number_of ds ≡ None → ⊥
 some_number ds some all none =
-    let told = number_of_digits ds (digits_value ds) some all refl in
+    let told = number_of-digits ds (some_bytes ds some) all in
     let clash : ◌≡◌ {A = Option ℤ} None (Some (pos (digits_value ds))) = sym none ∙ told in
     cc
 

@@ -4,8 +4,5 @@ use Rattle.route_model.specs.Parts.{ModelParts}
 use Rattle.model_text.specs.FirstFault.{ReadsAs}
 use Rattle.model_text.specs.Spelling.{Spells}
 
-pub reads_spelled : (text : List ℕ) (m : ModelParts) → ReadsAs text m → Spells text m
-reads_spelled text m is = ?
-
 pub spelled_reads : (text : List ℕ) (m : ModelParts) → Spells text m → ReadsAs text m
 spelled_reads text m is = ?
