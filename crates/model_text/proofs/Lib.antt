@@ -1,12 +1,5 @@
 pub mod Examples
 pub mod LineLemmas
-pub mod NumeralLemmas
-pub mod ReadingLemmas
-pub mod PartLemmas
-pub mod GraphLemmas
-pub mod TextLemmas
-pub mod SmallLemmas
-pub mod SpellsLemmas
 pub mod GrammarExamples
 pub mod WantedLemmas
 pub mod ReaderLemmas
@@ -23,6 +16,8 @@ pub mod LineSpendLemmas
 pub mod DraftLineLemmas
 pub mod LineSaidLemmas
 pub mod ReadsSpelledLemmas
+pub mod SpellsBothLemmas
+pub mod SpellsLawLemmas
 pub mod PlainLineLemmas
 pub mod PrintedWordLemmas
 pub mod ItemLemmas

@@ -38,7 +38,7 @@ some_of : (w : List ℕ) → 0 < length w → is_some_bytes w ≡ true
 some_of [] h = absurd (omega arith)
 some_of (b ∷ w) h = refl
 
-number_of-digits : (ds : List ℕ) → is_some_bytes ds ≡ true → list_all is_digit ds ≡ true → number_of ds ≡ Some (pos (digits_value ds))
+pub number_of-digits : (ds : List ℕ) → is_some_bytes ds ≡ true → list_all is_digit ds ≡ true → number_of ds ≡ Some (pos (digits_value ds))
 number_of-digits [] some digits = cc
 number_of-digits (b ∷ bs) some digits =
     let no = no_minus b (and_parts (is_digit b) (list_all is_digit bs) digits).0 in

@@ -1,9 +1,6 @@
 pub mod Lines
 pub mod ModelText
-pub mod SmallForm
 pub mod Kinds
-pub mod Guess
-pub mod Bytes
 pub mod Wanted
 pub mod Gives
 pub mod Draft
@@ -18,3 +15,5 @@ pub mod PathText
 pub mod PathFault
 pub mod PathCounts
 pub mod ModelEnd
+pub mod Refusal
+pub mod Built

@@ -1,11 +1,11 @@
 //! Texts of models and plans: reading, printing, and the kinds of faults.
 #![tactic(auto)]
 
+mod built;
 mod draft;
 mod end_line;
 mod further;
 mod graph_words;
-mod guess;
 mod kind;
 mod line_kind;
 mod line_words;
@@ -17,7 +17,6 @@ mod plan_print;
 mod plan_read;
 mod print;
 mod read;
-mod reading;
 mod row_words;
 mod wanted;
 mod whole;
