@@ -10,6 +10,7 @@ pub mod DraftFitLemmas
 pub mod LineFitLemmas
 pub mod TextFitLemmas
 pub mod EndLineLemmas
+pub mod PathWordLemmas
 pub mod NumberWordLemmas
 pub mod SpendLemmas
 pub mod LineSpendLemmas
@@ -24,3 +25,7 @@ pub mod ItemLemmas
 pub mod PrintedRowLemmas
 pub mod PrintedGraphLemmas
 pub mod PrintedTextLemmas
+pub mod TakenLemmas
+pub mod RowTakenLemmas
+pub mod GraphTakenLemmas
+pub mod LineTakenLemmas
