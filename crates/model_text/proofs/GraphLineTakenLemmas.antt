@@ -37,18 +37,18 @@ use Rattle.model_text.proofs.LineTakenLemmas.{Goes, goes_on, stays, line_goes, i
 use Rattle.model_text.proofs.DraftTakenLemmas.{place_below}
 
 -- a graph as far as it is read
-abbrev section_of : GraphParts → List Vertex → List GraphArc → List (List ℕ) → Section
+abbrev pub section_of : GraphParts → List Vertex → List GraphArc → List (List ℕ) → Section
 section_of g vertices arcs maps =
     record { count = length g.vertices; ends = g.ends; vertices = vertices; arcs = arcs; maps = maps }
 
 stage_to_come : (s : Section) → length s.vertices < s.count → stage_in s ≡ Vertices
 stage_to_come s below = by_false Arcs Vertices (length s.vertices == s.count) (grind (arith, nat_tests, below))
 
-stage_whole : (s : Section) → length s.vertices ≡ s.count → stage_in s ≡ Arcs
+pub stage_whole : (s : Section) → length s.vertices ≡ s.count → stage_in s ≡ Arcs
 stage_whole s whole = by_true Arcs Vertices (length s.vertices == s.count) (grind (arith, nat_tests, whole))
 
 -- the graph line
-graph_begins : (d : Draft) (g : GraphParts) → may_stand line.Graph d.stage ≡ true → length (sections_of d) < 64 → PartsFit g.ends g.vertices g.arcs → path_total (sections_of d) + g.ends.high ≤ 4096 → Goes d (graph_words g ∷ []) (in_section (record d { done = sections_of d }) (section_of g [] [] []))
+pub graph_begins : (d : Draft) (g : GraphParts) → may_stand line.Graph d.stage ≡ true → length (sections_of d) < 64 → PartsFit g.ends g.vertices g.arcs → path_total (sections_of d) + g.ends.high ≤ 4096 → Goes d (graph_words g ∷ []) (in_section (record d { done = sections_of d }) (section_of g [] [] []))
 graph_begins d g stands room fit paths =
     let some = fit.some_vertices in
     let begun : Section = section_of g [] [] [] in
@@ -68,7 +68,7 @@ free_place vertices before v after place is none here =
     let at : vertex_at (before ++ v ∷ after) (length before) ≡ v = get_or-append_seam before v after (record { set = None; windows = [] }) in
     sym (ap (λ (x : Vertex). x.set) at) ∙ (ap (λ (vs : List Vertex). (vertex_at vs (length before)).set) is ∙ (ap (λ n. (vertex_at vertices n).set) here ∙ none))
 
-vertices_go : (e : Draft) (g : GraphParts) → e.sets ≤ 512 → GraphFits e.sets g → Goes (in_section e (section_of g [] [] [])) (map (vertex_words g.ends) g.vertices) (in_section e (section_of g g.vertices [] []))
+pub vertices_go : (e : Draft) (g : GraphParts) → e.sets ≤ 512 → GraphFits e.sets g → Goes (in_section e (section_of g [] [] [])) (map (vertex_words g.ends) g.vertices) (in_section e (section_of g g.vertices [] []))
 vertices_go e g few fit =
     let parts = fit.graph.fits in
     items_go (λ vs. in_section e (section_of g vs [] [])) (vertex_words g.ends) g.vertices (λ before v after is.
@@ -93,13 +93,13 @@ arc_goes e s arc mapped whole few few_vars few_arcs few_in_all ends fit maps =
     and_none _ (arc_takes (length e.vars) s.count s arc mapped few_vars (omega (arith, whole, few)) ends (rw (← whole) at fit) maps) (given _ []))
 
 -- an arc with its variables
-abbrev Mapped : Type 0
+abbrev pub Mapped : Type 0
 Mapped = GraphArc × List ℕ
 
-abbrev with_arcs : Draft → GraphParts → List Mapped → Draft
+abbrev pub with_arcs : Draft → GraphParts → List Mapped → Draft
 with_arcs e g ps = in_section e (section_of g g.vertices (keys_of ps) (values_of ps))
 
-arcs_go : (e : Draft) (g : GraphParts) (ps : List Mapped) → length e.vars ≤ 30000 → PartsFit g.ends g.vertices g.arcs → length ps ≤ 60000 → arc_total e.done + length ps ≤ 100000 → All (λ p. ArcFits g.ends (length g.vertices) p.0 × MapFits (length e.vars) p.1) ps → Goes (with_arcs e g []) (map (λ p. arc_words g.ends p.0 p.1) ps) (with_arcs e g ps)
+pub arcs_go : (e : Draft) (g : GraphParts) (ps : List Mapped) → length e.vars ≤ 30000 → PartsFit g.ends g.vertices g.arcs → length ps ≤ 60000 → arc_total e.done + length ps ≤ 100000 → All (λ p. ArcFits g.ends (length g.vertices) p.0 × MapFits (length e.vars) p.1) ps → Goes (with_arcs e g []) (map (λ p. arc_words g.ends p.0 p.1) ps) (with_arcs e g ps)
 arcs_go e g ps few_vars fit few few_in_all each =
     items_go (with_arcs e g) (λ p. arc_words g.ends p.0 p.1) ps (λ before p after is.
     let size : length (keys_of before) ≡ length before = length-map before (λ (p : Mapped). p.0) in
