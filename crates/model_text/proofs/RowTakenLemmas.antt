@@ -21,7 +21,7 @@ use Rattle.model_text.specs.LineWords.{var_wanted, side_wanted, last_of, is_abov
 use Rattle.model_text.specs.ModelText.{side_word, term_words}
 use Rattle.model_text.specs.Totals.{term_total}
 use Rattle.model_text.proofs.NumberWordLemmas.{number_is}
-use Rattle.model_text.proofs.TakenLemmas.{Takes, given, and_takes, and_none, unless, by_true, by_false, with_word, limited_taken, number_takes, known_takes, plain_word, other_word, items_taken}
+use Rattle.model_text.proofs.TakenLemmas.{Takes, given, and_takes, and_none, unless, by_true, by_false, with_word, small_number, limited_taken, number_takes, known_takes, plain_word, other_word, items_taken}
 
 not_below : (a b : ℤ) → b ≤ℤ a → int_lt a b ≡ false
 not_below a b h = grind (arith, nat_tests, h)
@@ -31,10 +31,10 @@ at_most_high low high most l h = grind (arith, l, h)
 
 pub var_takes : (v : Var) (left : Words) → VarFits v → Takes var_wanted (signed_decimal v.low ∷ signed_decimal v.high ∷ signed_decimal v.cost ∷ []) v left
 var_takes v left fit =
-    and_takes _ (number_takes (pos 0) (pos 1000000) v.low fit.low (at_most_high v.low v.high (pos 1000000) fit.sides fit.high))
-    (and_takes _ (number_takes (pos 0) (pos 1000000) v.high (at_most_high (pos 0) v.low v.high fit.low fit.sides) fit.high)
+    and_takes _ (number_takes (pos 0) (pos 1000000) v.low refl refl fit.low (at_most_high v.low v.high (pos 1000000) fit.sides fit.high))
+    (and_takes _ (number_takes (pos 0) (pos 1000000) v.high refl refl (at_most_high (pos 0) v.low v.high fit.low fit.sides) fit.high)
     (unless fault.Box (int_lt v.high v.low) (not_below v.high v.low fit.sides)
-    (and_takes _ (number_takes (neg_ℤ (pos 1000000000)) (pos 1000000000) v.cost fit.cost.0 fit.cost.1) (given v left))))
+    (and_takes _ (number_takes (neg_ℤ (pos 1000000000)) (pos 1000000000) v.cost refl refl fit.cost.0 fit.cost.1) (given v left))))
 
 -- the sides of a row
 pub side_takes : (side : Option ℤ) → IfSome side (IsWithin 1000000000000) → (left : Words) → Takes side_wanted (side_word side ∷ []) side left
@@ -42,7 +42,7 @@ side_takes None fit left =
     with_word (λ w e. ap (λ (m : Wants (Option ℤ)). m left) (by_true (give None) (limited_word (neg_ℤ (pos 1000000000000)) (pos 1000000000000) w >>= (λ side. give (Some side))) (bytes_eq w (codes "*")) (plain_word w (codes "*") refl e)))
 side_takes (Some z) fit left =
     with_word (λ w e.
-    let number = number_is w z e in
+    let number = number_is w z (small_number (neg_ℤ (pos 1000000000000)) (pos 1000000000000) z refl refl fit.0 fit.1) e in
     ap (λ (m : Wants (Option ℤ)). m left) (by_false (give None) (limited_word (neg_ℤ (pos 1000000000000)) (pos 1000000000000) w >>= (λ side. give (Some side))) (bytes_eq w (codes "*")) (other_word w (codes "*") z refl number))
     ∙ ap (λ r. and_then r (λ side. give (Some side))) (limited_taken (neg_ℤ (pos 1000000000000)) (pos 1000000000000) w z left fit.0 fit.1 number))
 
@@ -80,6 +80,7 @@ above_test a b h = grind (arith, nat_tests, h)
 
 -- what a term must keep beside the terms before it
 pub record TermRoom (vars : List Var) (rows : List Row) (front : List RowTerm) (t : RowTerm) : Type 0 where
+  pub declared : length vars ≤ 30000
   pub fits : TermFits (length vars) t
   pub above : is_above (option_map (λ (u : RowTerm). u.var) (last_of front)) t.var ≡ true
   pub few : term_total rows + length front < 1000000
@@ -87,9 +88,9 @@ pub record TermRoom (vars : List Var) (rows : List Row) (front : List RowTerm) (
 
 term_takes : (vars : List Var) (rows : List Row) (front : List RowTerm) (t : RowTerm) → TermRoom vars rows front t → (left : Words) → Takes (term_wanted vars rows front) (term_words t) t left
 term_takes vars rows front t room left =
-    and_takes _ (known_takes (length vars) t.var room.fits.var)
+    and_takes _ (known_takes (length vars) t.var (let few = room.declared in omega (arith, few)) room.fits.var)
     (unless fault.Order (not (is_above (option_map (λ (u : RowTerm). u.var) (last_of front)) t.var)) (true_not _ room.above)
-    (and_takes _ (number_takes (neg_ℤ (pos 1000000)) (pos 1000000) t.coef room.fits.coef.0 room.fits.coef.1)
+    (and_takes _ (number_takes (neg_ℤ (pos 1000000)) (pos 1000000) t.coef refl refl room.fits.coef.0 room.fits.coef.1)
     (unless fault.TooMany (not (nat_lt (term_total rows + length front) 1000000)) (below_test _ _ room.few)
     (unless fault.TooMany (nat_lt 1048576 (total_coef rows t.var + row_coef t.var front + unsigned_abs t.coef)) (above_test _ _ room.small) (given t left)))))
 
@@ -109,8 +110,8 @@ at_seam P front x back all =
 coef_here : (t : RowTerm) → (if t.var == t.var then unsigned_abs t.coef else 0) ≡ unsigned_abs t.coef
 coef_here t = by_true (unsigned_abs t.coef) 0 (t.var == t.var) (grind (arith, nat_tests))
 
-pub row_room : (vars : List Var) (before : List Row) (row : Row) (after : List Row) → RowsFit (length vars) (before ++ row ∷ after) → RowFits (length vars) row → (front : List RowTerm) (t : RowTerm) (back : List RowTerm) → front ++ t ∷ back ≡ row.terms → TermRoom vars before front t
-row_room vars before row after all fit front t back is =
+pub row_room : (vars : List Var) (before : List Row) (row : Row) (after : List Row) → length vars ≤ 30000 → RowsFit (length vars) (before ++ row ∷ after) → RowFits (length vars) row → (front : List RowTerm) (t : RowTerm) (back : List RowTerm) → front ++ t ∷ back ≡ row.terms → TermRoom vars before front t
+row_room vars before row after few_vars all fit front t back is =
     let here : TermFits (length vars) t = at_seam (TermFits (length vars)) front t back (rw (← is) at fit.each) in
     let terms : term_total (before ++ row ∷ after) ≡ term_total before + term_total (row ∷ after) = sum_by-append (λ (r : Row). length r.terms) before (row ∷ after) in
     let of_row : term_total (row ∷ after) ≡ length row.terms + term_total after = sum_by-cons (λ (r : Row). length r.terms) row after in
@@ -123,6 +124,7 @@ row_room vars before row after all fit front t back is =
     let whole = coef_here t in
     let small = all.coefs t.var here.var in
     record {
+      declared = few_vars;
       fits = here;
       above = is_above_last (λ (u : RowTerm). u.var) front t back (rw (← is) at fit.ascend);
       few = omega (arith, terms, of_row, size, few);
@@ -134,14 +136,14 @@ above_plain : (last : Option ℕ) (n : ℕ) → is_above (option_map (λ j. j) l
 above_plain None n h = h
 above_plain (Some last) n h = h
 
-mapped_takes : (vars : ℕ) (front : List ℕ) (j : ℕ) (back : List ℕ) → MapFits vars (front ++ j ∷ back) → (left : Words) → Takes (mapped_wanted vars front) (decimal j ∷ []) j left
-mapped_takes vars front j back fit left =
+mapped_takes : (vars : ℕ) (front : List ℕ) (j : ℕ) (back : List ℕ) → vars ≤ 30000 → MapFits vars (front ++ j ∷ back) → (left : Words) → Takes (mapped_wanted vars front) (decimal j ∷ []) j left
+mapped_takes vars front j back few_vars fit left =
     let few : length front < 16 = let most = fit.few in omega (arith, most, length-append front (j ∷ back)) in
-    and_takes _ (known_takes vars j (at_seam (λ i. i < vars) front j back fit.each))
+    and_takes _ (known_takes vars j (omega (arith, few_vars)) (at_seam (λ i. i < vars) front j back fit.each))
     (unless fault.Order (not (is_above (last_of front) j)) (true_not _ (above_plain (last_of front) j (is_above_last (λ i. i) front j back fit.ascend)))
     (unless fault.TooMany (not (nat_lt (length front) 16)) (below_test _ _ few) (given j left)))
 
-pub all_mapped_take : (vars : ℕ) (mapped : List ℕ) → MapFits vars mapped → Takes (to_the_end (mapped_wanted vars)) (map decimal mapped) mapped []
-all_mapped_take vars mapped fit =
+pub all_mapped_take : (vars : ℕ) (mapped : List ℕ) → vars ≤ 30000 → MapFits vars mapped → Takes (to_the_end (mapped_wanted vars)) (map decimal mapped) mapped []
+all_mapped_take vars mapped few_vars fit =
     subst (λ form. Takes (to_the_end (mapped_wanted vars)) form mapped []) (flat_map_single decimal mapped)
-    (items_taken (mapped_wanted vars) (λ j. decimal j ∷ []) mapped (λ j. omega arith) (λ front j back is left. mapped_takes vars front j back (rw (← is) at fit) left))
+    (items_taken (mapped_wanted vars) (λ j. decimal j ∷ []) mapped (λ j. omega arith) (λ front j back is left. mapped_takes vars front j back few_vars (rw (← is) at fit) left))

@@ -1,5 +1,5 @@
 -- Words in printed form are taken as what they spell: what is wanted one after the other.
-use Rattle.std.proofs.Common.{◌≡◌, ℕ, zero, suc, ◌+◌, ◌≤◌, ◌<◌, ℤ, pos, unsigned_abs, ◌≤ℤ◌, Bool, true, false, not, List, [], ◌∷◌, ◌++◌, length, map, refl, ap, subst, sym, ◌∙◌, arith, append_assoc, Option, None, Some, Result, Ok, Err}
+use Rattle.std.proofs.Common.{◌≡◌, ℕ, zero, suc, ◌+◌, ◌^◌, ◌≤◌, ◌<◌, ℤ, pos, negsuc, neg_ℤ, unsigned_abs, ◌≤ℤ◌, Bool, true, false, not, List, [], ◌∷◌, ◌++◌, length, map, refl, ap, subst, sym, ◌∙◌, arith, append_assoc, Option, None, Some, Result, Ok, Err}
 use Rattle.std.specs.Prelude.{◌==◌, ◌||◌, int_lt, nat_lt, decimal, if◌then◌else◌}
 use Rattle.std.specs.List.{flat_map}
 use Rattle.std.specs.Fmt.{signed_decimal}
@@ -13,6 +13,7 @@ use Rattle.model_text.specs.declared.kind.Kind.TheVariants as fault
 use Rattle.model_text.specs.Wanted.{Words, Wants, ◌>>=◌, ◌>>◌, and_then, give, fault_if, word, number_of_word, limited_word, number_in, natural_in, known_word, known_below, for_each, at_most, to_the_end}
 use Rattle.model_text.specs.Spelling.{in_printed_form}
 use Rattle.model_text.proofs.FitLemmas.{AllAt}
+use Rattle.model_text.proofs.SpendLemmas.{words_at}
 use Rattle.model_text.proofs.NumberWordLemmas.{number_is, natural_is, plain_is}
 
 -- a list whose image begins with an item
@@ -115,12 +116,24 @@ limited_taken low high w z left l h e =
     ap (λ r. and_then r (λ y. fault_if fault.Range (int_lt y low || int_lt high y) >> give y)) (number_taken w z left e)
     ∙ ap (λ b. (fault_if fault.Range b >> give z) left) none
 
-pub number_takes : (low high z : ℤ) → low ≤ℤ z → z ≤ℤ high → (left : Words) → Takes (number_in low high) (signed_decimal z ∷ []) z left
-number_takes low high z l h left = with_word (λ w e. limited_taken low high w z left l h (number_is w z e))
+-- numbers of all lines are small
+pub small_number : (low high z : ℤ) → int_lt low (neg_ℤ (pos 1000000000000)) ≡ false → int_lt (pos 1000000000000) high ≡ false → low ≤ℤ z → z ≤ℤ high → unsigned_abs z < 10 ^ 18
+small_number low high z wide wide_too l h =
+    let at_least : (neg_ℤ (pos 1000000000000)) ≤ℤ z = grind (arith, nat_tests, wide, l) in
+    let at_most : z ≤ℤ pos 1000000000000 = grind (arith, nat_tests, wide_too, h) in
+    within z at_least at_most
+  where
+    within : (z : ℤ) → (neg_ℤ (pos 1000000000000)) ≤ℤ z → z ≤ℤ pos 1000000000000 → unsigned_abs z < 10 ^ 18
+    within (pos n) l h = grind (arith, h)
+    within (negsuc n) l h = grind (arith, l)
 
-pub natural_takes : (low high n : ℕ) → low ≤ n → n ≤ high → (left : Words) → Takes (natural_in low high) (decimal n ∷ []) n left
-natural_takes low high n l h left =
-    and_takes _ (number_takes (pos low) (pos high) (pos n) (at_least l) (at_least h)) (given n left)
+pub number_takes : (low high z : ℤ) → int_lt low (neg_ℤ (pos 1000000000000)) ≡ false → int_lt (pos 1000000000000) high ≡ false → low ≤ℤ z → z ≤ℤ high → (left : Words) → Takes (number_in low high) (signed_decimal z ∷ []) z left
+number_takes low high z wide wide_too l h left =
+    with_word (λ w e. limited_taken low high w z left l h (number_is w z (small_number low high z wide wide_too l h) e))
+
+pub natural_takes : (low high n : ℕ) → int_lt (pos 1000000000000) (pos high) ≡ false → low ≤ n → n ≤ high → (left : Words) → Takes (natural_in low high) (decimal n ∷ []) n left
+natural_takes low high n wide l h left =
+    and_takes _ (number_takes (pos low) (pos high) (pos n) refl wide (at_least l) (at_least h)) (given n left)
   where
     at_least : {a b : ℕ} → a ≤ b → pos a ≤ℤ pos b
     at_least h = grind (arith, h)
@@ -136,8 +149,10 @@ known_taken count w n left h e =
     ap (λ r. and_then r (λ y. fault_if fault.Unknown (int_lt y (pos 0) || not (nat_lt (unsigned_abs y) count)) >> give (unsigned_abs y))) (number_taken w (pos n) left e)
     ∙ ap (λ b. (fault_if fault.Unknown b >> give n) left) (below_not n count h)
 
-pub known_takes : (count n : ℕ) → n < count → (left : Words) → Takes (known_below count) (decimal n ∷ []) n left
-known_takes count n h left = with_word (λ w e. known_taken count w n left h (natural_is w n e))
+pub known_takes : (count n : ℕ) → count ≤ 1000000 → n < count → (left : Words) → Takes (known_below count) (decimal n ∷ []) n left
+known_takes count n few h left =
+    let small : n < 10 ^ 18 = omega (arith, few, h) in
+    with_word (λ w e. known_taken count w n left h (natural_is w n small e))
 
 -- a word that is no number, and one that is a number and so another word
 pub plain_word : (w k : List ℕ) → number_of k ≡ None → in_printed_form w ≡ k → bytes_eq w k ≡ true
@@ -183,12 +198,7 @@ items_taken wanted form xs some each =
     }
 
 -- one thing for each item of a list
-abbrev pub forms_of : {A : Type 0} → (ℕ → A → Words) → List ℕ → List A → Words
-forms_of form [] xs = []
-forms_of form (k ∷ ks) [] = []
-forms_of form (k ∷ ks) (x ∷ xs) = form k x ++ forms_of form ks xs
-
-pub each_taken : {A : Type 0} (wanted : ℕ → Wants A) (form : ℕ → A → Words) (ks : List ℕ) (xs : List A) → AllAt (λ k x. (left : Words) → Takes (wanted k) (form k x) x left) ks xs → (left : Words) → Takes (for_each wanted ks) (forms_of form ks xs) xs left
+pub each_taken : {A : Type 0} (wanted : ℕ → Wants A) (form : ℕ → A → Words) (ks : List ℕ) (xs : List A) → AllAt (λ k x. (left : Words) → Takes (wanted k) (form k x) x left) ks xs → (left : Words) → Takes (for_each wanted ks) (words_at form ks xs) xs left
 each_taken wanted form [] [] all left = given [] left
 each_taken wanted form [] (x ∷ xs) all left = absurd all
 each_taken wanted form (k ∷ ks) [] all left = absurd all
