@@ -29,3 +29,13 @@ pub mod TakenLemmas
 pub mod RowTakenLemmas
 pub mod GraphTakenLemmas
 pub mod LineTakenLemmas
+pub mod GraphLineTakenLemmas
+pub mod GraphsTakenLemmas
+pub mod DraftTakenLemmas
+pub mod SpelledReadsLemmas
+pub mod PathSpendLemmas
+pub mod PathTakenLemmas
+pub mod PlanReadsLemmas
+pub mod PlanSpelledLemmas
+pub mod PlanTextLemmas
+pub mod PathExamples

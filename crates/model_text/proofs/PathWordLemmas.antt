@@ -9,6 +9,7 @@ use Rattle.std.proofs.lemmas.List.Sums.{sum_by_push}
 use Rattle.std.proofs.lemmas.Bool.Decides.{nat_tests}
 use Rattle.route_model.specs.declared.plan.Taken.{Taken}
 use Rattle.route_model.specs.Quantities.{paths_of, is_of}
+use Rattle.route_model.specs.Tidy.{AreFew}
 use Rattle.model_text.specs.declared.kind.Kind.{Kind}
 use Rattle.model_text.specs.Wanted.{Words, Wants, ◌>>=◌, and_then, give, to_the_end}
 use Rattle.model_text.specs.PathFault.{name_wanted, arcs_wanted}
@@ -48,6 +49,19 @@ paths_of-other paths t g other =
     let zero_count : t.count * is_of g t.graph t.arcs ≡ 0 = ap (λ n. t.count * n) none ∙ mul-zero t.count in
     omega (arith, paths_of_push paths t g, zero_count)
 
+-- one more path of a graph that has room for it
+pub few_push : (paths : List Taken) (t : Taken) → AreFew paths → paths_of paths t.graph + t.count ≤ 4096 → AreFew (paths ++ t ∷ [])
+few_push paths t few room g = by_test (t.graph == g) refl
+  where
+    by_test : (b : Bool) → (t.graph == g) ≡ b → paths_of (paths ++ t ∷ []) g ≤ 4096
+    by_test true is =
+        let same : t.graph ≡ g = grind (arith, nat_tests, is) in
+        let own : paths_of (paths ++ t ∷ []) t.graph ≤ 4096 = rw (paths_of-same paths t) room in
+        subst (λ h. paths_of (paths ++ t ∷ []) h ≤ 4096) same own
+    by_test false is =
+        let limit = few g in
+        rw (paths_of-other paths t g is) limit
+
 is_apart : (k q : ℕ) → (k == q) ≡ false → is_eq (nat_cmp k q) ≡ false
 is_apart k q other = by_test (nat_lt k q)
   where
@@ -55,26 +69,25 @@ is_apart k q other = by_test (nat_lt k q)
     by_test true = refl
     by_test false = rw other refl
 
-abbrev Counted : BTreeMap ℕ ℕ → List Taken → ℕ → Type 0
-Counted counts paths g = (count_at (get nat_cmp counts) g ≡ paths_of paths g) × (paths_of paths g ≤ 4096)
-
 pub counts_more : (old new : BTreeMap ℕ ℕ) (paths : List Taken) (t : Taken) → AreCounts old paths → Updates nat_cmp old new t.graph (Some (count_at (get nat_cmp old) t.graph + t.count)) → count_at (get nat_cmp old) t.graph + t.count ≤ 4096 → AreCounts new (paths ++ t ∷ [])
-counts_more old new paths t are updates few = record { sums = λ g. (at g (t.graph == g) refl).0; few = λ g. (at g (t.graph == g) refl).1 }
+counts_more old new paths t are updates few =
+    let sum = are.sums t.graph in
+    let room : paths_of paths t.graph + t.count ≤ 4096 = omega (arith, few, sum) in
+    record { sums = λ g. at g (t.graph == g) refl; few = few_push paths t are.few room }
   where
-    own : Counted new (paths ++ t ∷ []) t.graph
+    own : count_at (get nat_cmp new) t.graph ≡ paths_of (paths ++ t ∷ []) t.graph
     own =
         let sum = are.sums t.graph in
         let more = paths_of-same paths t in
-        let at_own : count_at (get nat_cmp new) t.graph ≡ count_at (get nat_cmp old) t.graph + t.count = ap (λ o. unwrap_or o 0) updates.1 in
-        (omega (arith, at_own, sum, more), omega (arith, few, sum, more))
+        let here : count_at (get nat_cmp new) t.graph ≡ count_at (get nat_cmp old) t.graph + t.count = ap (λ o. unwrap_or o 0) updates.1 in
+        omega (arith, here, sum, more)
 
-    at : (g : ℕ) (b : Bool) → (t.graph == g) ≡ b → Counted new (paths ++ t ∷ []) g
+    at : (g : ℕ) (b : Bool) → (t.graph == g) ≡ b → count_at (get nat_cmp new) g ≡ paths_of (paths ++ t ∷ []) g
     at g true is =
         let same : t.graph ≡ g = grind (arith, nat_tests, is) in
-        subst (Counted new (paths ++ t ∷ [])) same own
+        subst (λ h. count_at (get nat_cmp new) h ≡ paths_of (paths ++ t ∷ []) h) same own
     at g false is =
         let kept = ap (λ o. unwrap_or o 0) (updates.2 g (is_apart t.graph g is)) in
         let sum = are.sums g in
         let more = paths_of-other paths t g is in
-        let limit = are.few g in
-        (omega (arith, kept, sum, more), omega (arith, limit, more))
+        omega (arith, kept, sum, more)
