@@ -10,8 +10,6 @@ pub mod DraftFitLemmas
 pub mod LineFitLemmas
 pub mod TextFitLemmas
 pub mod NumberWordLemmas
-pub mod SpellsBothLemmas
-pub mod SpellsLawLemmas
 pub mod BuildLemmas
 pub mod PlainLineLemmas
 pub mod PrintedWordLemmas
@@ -24,3 +22,12 @@ pub mod LineSpendLemmas
 pub mod DraftLineLemmas
 pub mod LineSaidLemmas
 pub mod ReadsSpelledLemmas
+pub mod TakenLemmas
+pub mod RowTakenLemmas
+pub mod GraphTakenLemmas
+pub mod LineTakenLemmas
+pub mod DraftTakenLemmas
+pub mod GraphLineTakenLemmas
+pub mod GraphsTakenLemmas
+pub mod SpelledReadsLemmas
+pub mod SpellsLawLemmas

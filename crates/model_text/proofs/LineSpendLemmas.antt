@@ -87,7 +87,7 @@ set_wanted-spends sets =
     knowing (known_word-spends sets w) (λ set p. given (Some set) (ap (λ v. v ∷ []) p))))
 
 -- what stands at a position that is used
-abbrev words_if : {A : Type 0} → (A → Words) → Ends → ℕ → A → Words
+abbrev pub words_if : {A : Type 0} → (A → Words) → Ends → ℕ → A → Words
 words_if W ends k x = if is_used_at ends k then W x else []
 
 -- the positions that are used, in the order of `used`
@@ -120,7 +120,7 @@ used_six W (suc zero) seconds x0 x1 x2 x3 x4 x5 some most few = used_one W secon
 used_six W (suc (suc zero)) seconds x0 x1 x2 x3 x4 x5 some most few = used_two W seconds x0 x1 x2 x3 x4 x5 few
 used_six W (suc (suc (suc n))) seconds x0 x1 x2 x3 x4 x5 some most few = absurd (omega arith)
 
-used_words : {A : Type 0} (W : A → Words) (ends : Ends) (count : ℕ) (xs : List A) → EndsFit ends count → length xs ≡ 6 → words_at (words_if W ends) positions xs ≡ flat_map W (used ends xs)
+pub used_words : {A : Type 0} (W : A → Words) (ends : Ends) (count : ℕ) (xs : List A) → EndsFit ends count → length xs ≡ 6 → words_at (words_if W ends) positions xs ≡ flat_map W (used ends xs)
 used_words W ends count (x0 ∷ x1 ∷ x2 ∷ x3 ∷ x4 ∷ x5 ∷ []) fit six = used_six W ends.mains ends.seconds x0 x1 x2 x3 x4 x5 fit.some_main fit.mains fit.seconds
 used_words W ends count [] fit six = absurd (omega (arith, six))
 used_words W ends count (x0 ∷ []) fit six = absurd (omega (arith, six))
@@ -153,7 +153,7 @@ vertex_wanted-spends sets count s fit =
     given (record { set = set; windows = windows })
     (ap (λ us. codes "vertex" ∷ set_word set ∷ us) (append-nil ws ∙ (p.1 ∙ used_words window_words s.ends count windows fit p.0))))))
 
-abbrev need_words : ℤ → Words
+abbrev pub need_words : ℤ → Words
 need_words need = signed_decimal need ∷ []
 
 need_wanted-spends : (k : ℕ) → Spends (need_wanted k) (λ need ws. ws ≡ need_words need)

@@ -118,7 +118,7 @@ text_read-fits text d h =
     let parts = after_lines (lines_read empty_draft 1 (lines_of text)) text d h in
     (lines_read-fits empty_draft d 1 (lines_of text) empty_fits parts.0, parts.1)
 
-sum_by-map : {X Y : Type 0} (f : Y → ℕ) (h : X → Y) (n : ℕ) (xs : List X) → fold (λ a y. a + f y) n (map h xs) ≡ fold (λ a x. a + f (h x)) n xs
+pub sum_by-map : {X Y : Type 0} (f : Y → ℕ) (h : X → Y) (n : ℕ) (xs : List X) → fold (λ a y. a + f y) n (map h xs) ≡ fold (λ a x. a + f (h x)) n xs
 sum_by-map f h n [] = refl
 sum_by-map f h n (x ∷ xs) = sum_by-map f h (n + f (h x)) xs
 
