@@ -1,16 +1,15 @@
 -- The lines of the variables, rows and sets of a model are read as these.
-use Rattle.std.proofs.Common.{◌≡◌, ℕ, ◌+◌, ◌≤◌, ◌<◌, ℤ, Bool, true, false, not, List, [], ◌∷◌, ◌++◌, length, map, refl, ap, subst, sym, ◌∙◌, arith, Option, None, Some, inl, inr}
-use Rattle.std.specs.Prelude.{◌⊎◌, nat_lt, All, codes, decimal}
+use Rattle.std.proofs.Common.{◌≡◌, ℕ, ◌≤◌, ◌<◌, true, false, List, [], ◌∷◌, ◌++◌, length, map, refl, ap, subst, sym, ◌∙◌, arith, inl, inr}
+use Rattle.std.specs.Prelude.{codes, decimal}
 use Rattle.std.specs.Fmt.{signed_decimal}
 use Rattle.std.specs.List.{flat_map}
-use Rattle.std.proofs.lemmas.Bool.Decides.{nat_tests}
 use Rattle.std.proofs.lemmas.List.{length-append}
 use Rattle.route_model.specs.declared.parts.Var.{Var}
 use Rattle.route_model.specs.declared.parts.RowTerm.{RowTerm}
 use Rattle.route_model.specs.declared.parts.Row.{Row}
 use Rattle.route_model.specs.Fit.{VarFits, VarsFit, RowFits, RowsFit}
 use Rattle.model_text.specs.declared.draft.Stage.{Stage}
-use Rattle.model_text.specs.declared.draft.Stage.TheVariants.{Opening, Variables, Rows, Sets, Vertices, Arcs, Ended}
+use Rattle.model_text.specs.declared.draft.Stage.TheVariants.{Variables, Rows, Sets}
 use Rattle.model_text.specs.declared.draft.Draft.{Draft}
 use Rattle.model_text.specs.declared.line_kind.LineKind.TheVariants as line
 use Rattle.model_text.specs.Wanted.{Words}
@@ -88,19 +87,19 @@ graph_stands _ h = cc
 
 pub sets_go : (d : Draft) (sets : ℕ) (lines : List Words) → d.sets ≡ 0 → may_stand line.Sets d.stage ≡ true → sets ≤ 512 → IsSetsPart sets lines → SetsGone d sets lines
 sets_go d sets lines zero stands few part = elim part [
-      | inl one ↦ record {
-        stage = Sets;
-        goes = subst (λ ls. Goes d ls (record d { stage = Sets; sets = sets })) (sym one) sets_line;
-        stands = refl;
-        closed = refl;
-      }
-      | inr none ↦ record {
-        stage = d.stage;
-        goes = subst (λ n. Goes d lines (record d { sets = n })) (zero ∙ sym none.0) (subst (λ ls. Goes d ls d) (sym none.1) (stays d));
-        stands = (graph_stands d.stage stands).0;
-        closed = (graph_stands d.stage stands).1;
-      }
-    ]
+  | inl one ↦ record {
+    stage = Sets;
+    goes = subst (λ ls. Goes d ls (record d { stage = Sets; sets = sets })) (sym one) sets_line;
+    stands = refl;
+    closed = refl;
+  }
+  | inr none ↦ record {
+    stage = d.stage;
+    goes = subst (λ n. Goes d lines (record d { sets = n })) (zero ∙ sym none.0) (subst (λ ls. Goes d ls d) (sym none.1) (stays d));
+    stands = (graph_stands d.stage stands).0;
+    closed = (graph_stands d.stage stands).1;
+  }
+]
   where
     sets_line : Goes d (sets_words sets ∷ []) (record d { stage = Sets; sets = sets })
     sets_line =

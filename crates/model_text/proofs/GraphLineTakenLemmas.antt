@@ -1,39 +1,33 @@
 -- The lines of the graphs of a model are read as these.
-use Rattle.std.proofs.Common.{◌≡◌, ◌≢◌, ℕ, ◌+◌, ◌≤◌, ◌<◌, ℤ, Bool, true, false, not, List, [], ◌∷◌, ◌++◌, length, map, get_or, refl, ap, subst, sym, ◌∙◌, arith, append_assoc, Option, None, Some}
-use Rattle.std.specs.Prelude.{◌==◌, ◌||◌, nat_lt, if◌then◌else◌, All, codes, decimal, sum_by}
+use Rattle.std.proofs.Common.{◌≡◌, ℕ, ◌+◌, ◌≤◌, ◌<◌, true, false, not, List, [], ◌∷◌, ◌++◌, length, map, refl, ap, subst, sym, ◌∙◌, arith, None}
+use Rattle.std.specs.Prelude.{◌==◌, nat_lt, if◌then◌else◌, All, codes, decimal}
 use Rattle.std.specs.Fmt.{signed_decimal}
-use Rattle.std.specs.List.{flat_map, zip}
+use Rattle.std.specs.List.{flat_map}
 use Rattle.std.specs.Map.{keys_of, values_of}
 use Rattle.std.proofs.lemmas.Bool.Decides.{nat_tests}
-use Rattle.std.proofs.lemmas.List.{length-append, length-map, map-append, append-nil}
-use Rattle.std.proofs.lemmas.List.Elements.{All-head, All-tail}
-use Rattle.std.proofs.lemmas.List.Sums.{sum_by_push, sum_by-cons}
-use Rattle.std.proofs.lemmas.Slice.Zip.{length-zip}
-use Rattle.std.proofs.lemmas.Map.Made.{keys_of-zip}
+use Rattle.std.proofs.lemmas.List.{length-map, map-append}
+use Rattle.std.proofs.lemmas.List.Sums.{sum_by_push}
 use Rattle.std.proofs.Math.Seq.{get_or-append_seam}
 use Rattle.path_graph.specs.declared.parts.Vertex.{Vertex}
 use Rattle.path_graph.specs.declared.parts.GraphArc.{GraphArc}
-use Rattle.path_graph.specs.declared.parts.Ends.{Ends}
 use Rattle.path_graph.specs.Walk.{GraphParts}
 use Rattle.path_graph.specs.Fit.{VertexFits, ArcFits, EndsFit, PartsFit, vertex_at}
-use Rattle.route_model.specs.Fit.{GraphFits, GraphMapsFit, MapFits, IsDeclared}
+use Rattle.route_model.specs.Fit.{GraphFits, MapFits, IsDeclared}
 use Rattle.model_text.specs.declared.draft.Stage.{Stage}
-use Rattle.model_text.specs.declared.draft.Stage.TheVariants.{Opening, Variables, Rows, Sets, Vertices, Arcs, Ended}
+use Rattle.model_text.specs.declared.draft.Stage.TheVariants.{Vertices, Arcs}
 use Rattle.model_text.specs.declared.draft.Section.{Section}
 use Rattle.model_text.specs.declared.draft.Draft.{Draft}
 use Rattle.model_text.specs.declared.line_kind.LineKind.TheVariants as line
-use Rattle.model_text.specs.Wanted.{Words}
-use Rattle.model_text.specs.Draft.{begun_section, with_vertex, with_arc, stage_in, in_section, is_in_graph, sections_of, graph_of}
+use Rattle.model_text.specs.Draft.{with_vertex, with_arc, stage_in, in_section, is_in_graph, sections_of}
 use Rattle.model_text.specs.LineKinds.{may_stand}
 use Rattle.model_text.specs.ModelText.{used, set_word, window_words}
-use Rattle.model_text.specs.ModelLines.{graph_words, vertex_words, arc_words, graph_lines}
+use Rattle.model_text.specs.ModelLines.{graph_words, vertex_words, arc_words}
 use Rattle.model_text.specs.Totals.{path_total, arc_total}
 use Rattle.model_text.proofs.GraphFitLemmas.{IsFree}
-use Rattle.model_text.proofs.ItemLemmas.{All-zip}
-use Rattle.model_text.proofs.TakenLemmas.{given, and_none, by_true, by_false}
+use Rattle.model_text.proofs.TakenLemmas.{neither, given, and_none, by_true, by_false}
 use Rattle.model_text.proofs.RowTakenLemmas.{at_seam, below_test}
 use Rattle.model_text.proofs.GraphTakenLemmas.{graph_takes, vertex_takes, arc_takes}
-use Rattle.model_text.proofs.LineTakenLemmas.{Goes, goes_on, stays, line_goes, items_go}
+use Rattle.model_text.proofs.LineTakenLemmas.{Goes, line_goes, items_go}
 use Rattle.model_text.proofs.DraftTakenLemmas.{place_below}
 
 -- a graph as far as it is read
@@ -79,10 +73,6 @@ vertices_go e g few fit =
     })) [] g.vertices refl
 
 -- arcs
-neither : (a b : Bool) → a ≡ false → b ≡ false → (a || b) ≡ false
-neither true b p q = cc
-neither false b p q = q
-
 arc_goes : (e : Draft) (s : Section) (arc : GraphArc) (mapped : List ℕ) → length s.vertices ≡ s.count → s.count ≤ 1024 → length e.vars ≤ 30000 → length s.arcs < 60000 → arc_total e.done + length s.arcs < 100000 → EndsFit s.ends s.count → ArcFits s.ends s.count arc → MapFits (length e.vars) mapped → Goes (in_section e s) (arc_words s.ends arc mapped ∷ []) (in_section e (with_arc s arc mapped))
 arc_goes e s arc mapped whole few few_vars few_arcs few_in_all ends fit maps =
     let stage = stage_whole s whole in

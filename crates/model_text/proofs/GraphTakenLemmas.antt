@@ -1,5 +1,5 @@
 -- The words of a graph, of a vertex and of an arc are taken as these.
-use Rattle.std.proofs.Common.{◌≡◌, ◌≢◌, ℕ, zero, suc, ◌+◌, ◌≤◌, ◌<◌, ℤ, pos, neg_ℤ, ◌≤ℤ◌, Bool, true, false, not, List, [], ◌∷◌, ◌++◌, length, map, get_or, take, drop, refl, ap, subst, sym, ◌∙◌, arith, append_assoc, Option, None, Some, Result, Ok, Err}
+use Rattle.std.proofs.Common.{◌≡◌, ◌≢◌, ℕ, ◌+◌, ◌≤◌, ◌<◌, ℤ, pos, neg_ℤ, ◌≤ℤ◌, Bool, true, false, List, [], ◌∷◌, ◌++◌, length, map, get_or, refl, ap, subst, sym, ◌∙◌, arith, Option, None, Some}
 use Rattle.std.specs.Prelude.{◌==◌, ◌||◌, ◌&&◌, int_lt, nat_lt, IfSome, is_some, if◌then◌else◌, codes, decimal}
 use Rattle.std.specs.List.{flat_map}
 use Rattle.std.specs.Fmt.{signed_decimal}
@@ -15,19 +15,16 @@ use Rattle.path_graph.specs.Walk.{positions, GraphParts}
 use Rattle.route_model.specs.Fit.{MapFits, IsDeclared}
 use Rattle.model_text.specs.declared.kind.Kind.TheVariants as fault
 use Rattle.model_text.specs.declared.draft.Section.{Section}
-use Rattle.model_text.specs.Wanted.{Words, Wants, ◌>>=◌, and_then, give, word, known_word, for_each, to_the_end}
-use Rattle.model_text.specs.LineWords.{set_wanted, window_wanted, window_at, need_wanted, need_at, vertex_wanted, mapped_wanted, arc_wanted, graph_wanted, sets_wanted}
+use Rattle.model_text.specs.Wanted.{Words, Wants, ◌>>=◌, and_then, give, known_word, for_each}
+use Rattle.model_text.specs.LineWords.{set_wanted, window_wanted, window_at, need_wanted, need_at, vertex_wanted, arc_wanted, graph_wanted, sets_wanted}
 use Rattle.model_text.specs.ModelText.{used, set_word, window_words}
 use Rattle.model_text.specs.Totals.{path_total}
 use Rattle.model_text.proofs.FitLemmas.{AllAt}
 use Rattle.model_text.proofs.GraphFitLemmas.{IsFree}
 use Rattle.model_text.proofs.LineSpendLemmas.{words_if, used_words, need_words}
 use Rattle.model_text.proofs.NumberWordLemmas.{natural_is}
-use Rattle.model_text.proofs.TakenLemmas.{Takes, given, and_takes, and_none, unless, by_true, by_false, with_word, known_taken, number_takes, natural_takes, known_takes, plain_word, other_word, each_taken}
-use Rattle.model_text.proofs.RowTakenLemmas.{below_test, above_test, all_mapped_take}
-
-not_below : (a b : ℤ) → b ≤ℤ a → int_lt a b ≡ false
-not_below a b h = grind (arith, nat_tests, h)
+use Rattle.model_text.proofs.TakenLemmas.{Takes, int_le_trans, at_least_test, given, and_takes, and_none, unless, by_true, by_false, with_word, known_taken, number_takes, natural_takes, known_takes, plain_word, other_word, each_taken}
+use Rattle.model_text.proofs.RowTakenLemmas.{above_test, all_mapped_take}
 
 different : (a b : ℕ) → a ≢ b → (a == b) ≡ false
 different a b apart = grind (arith, nat_tests, apart)
@@ -55,7 +52,7 @@ pub sets_takes : (sets : ℕ) → sets ≤ 512 → Takes sets_wanted (decimal se
 sets_takes sets few = let p = natural_takes 0 512 sets refl (omega arith) few [] in record { each = p.each }
 
 -- the set of a vertex
-pub set_takes : (sets : ℕ) (set : Option ℕ) → sets ≤ 512 → IfSome set (λ s. s < sets) → (left : Words) → Takes (set_wanted sets) (set_word set ∷ []) set left
+set_takes : (sets : ℕ) (set : Option ℕ) → sets ≤ 512 → IfSome set (λ s. s < sets) → (left : Words) → Takes (set_wanted sets) (set_word set ∷ []) set left
 set_takes sets None few declared left =
     with_word (λ w e. ap (λ (m : Wants (Option ℕ)). m left) (by_true (give None) (known_word sets w >>= (λ set. give (Some set))) (bytes_eq w (codes "-")) (plain_word w (codes "-") refl e)))
 set_takes sets (Some s) few declared left =
@@ -80,14 +77,11 @@ six_all Q d (x0 ∷ x1 ∷ x2 ∷ x3 ∷ x4 ∷ x5 ∷ x6 ∷ xs) size q = absur
 abbrev no_window : Window
 no_window = record { low = pos 0; high = pos 0 }
 
-low_within : (low high most : ℤ) → low ≤ℤ high → high ≤ℤ most → low ≤ℤ most
-low_within low high most l h = grind (arith, l, h)
-
 window_choice : (b : Bool) (w : Window) → WindowFits b w → (left : Words) → Takes (if b then window_wanted else give no_window) (if b then window_words w else []) w left
 window_choice true w fit left =
-    and_takes _ (number_takes (neg_ℤ (pos 100000000)) (pos 100000000) w.low refl refl fit.0 (low_within w.low w.high (pos 100000000) fit.1 fit.2))
-    (and_takes _ (number_takes (neg_ℤ (pos 100000000)) (pos 100000000) w.high refl refl (low_within (neg_ℤ (pos 100000000)) w.low w.high fit.0 fit.1) fit.2)
-    (unless fault.Window (int_lt w.high w.low) (not_below w.high w.low fit.1) (given w left)))
+    and_takes _ (number_takes (neg_ℤ (pos 100000000)) (pos 100000000) w.low refl refl fit.0 (int_le_trans w.low w.high (pos 100000000) fit.1 fit.2))
+    (and_takes _ (number_takes (neg_ℤ (pos 100000000)) (pos 100000000) w.high refl refl (int_le_trans (neg_ℤ (pos 100000000)) w.low w.high fit.0 fit.1) fit.2)
+    (unless fault.Window (int_lt w.high w.low) (at_least_test w.high w.low fit.1) (given w left)))
 window_choice false w fit left =
     let same : w ≡ no_window = ap (λ z. record { low = z; high = w.high }) fit.0 ∙ ap (λ z. record { low = pos 0; high = z }) fit.1 in
     subst (λ (x : Window). Takes (give no_window) [] x left) (sym same) (given no_window left)
@@ -118,11 +112,11 @@ need_takes k main need is fit left =
     (unless fault.MainNegative (nat_lt k 2 && int_lt need (pos 0)) (ap (λ b. b && int_lt need (pos 0)) is ∙ not_negative main fit) (given need left))
   where
     low : (main : Bool) → NeedFits true main need → (neg_ℤ (pos 100000000)) ≤ℤ need
-    low true fit = low_within (neg_ℤ (pos 100000000)) (pos 0) need (grind arith) fit.0
+    low true fit = int_le_trans (neg_ℤ (pos 100000000)) (pos 0) need (grind arith) fit.0
     low false fit = fit.0
 
     not_negative : (main : Bool) → NeedFits true main need → (main && int_lt need (pos 0)) ≡ false
-    not_negative true fit = not_below need (pos 0) fit.0
+    not_negative true fit = at_least_test need (pos 0) fit.0
     not_negative false fit = refl
 
 need_choice : (b : Bool) (k : ℕ) (need : ℤ) → NeedFits b (nat_lt k 2) need → (left : Words) → Takes (if b then need_wanted k else give (pos 0)) (if b then need_words need else []) need left

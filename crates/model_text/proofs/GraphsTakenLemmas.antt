@@ -1,5 +1,5 @@
 -- The lines of all graphs of a model are read as these.
-use Rattle.std.proofs.Common.{◌≡◌, ℕ, ◌+◌, ◌≤◌, ◌<◌, Bool, true, false, List, [], ◌∷◌, ◌++◌, length, map, get_or, refl, ap, subst, sym, ◌∙◌, arith, append_assoc}
+use Rattle.std.proofs.Common.{◌≡◌, ℕ, ◌+◌, ◌≤◌, ◌<◌, true, List, [], ◌∷◌, ◌++◌, length, map, refl, ap, subst, sym, ◌∙◌, arith, append_assoc}
 use Rattle.std.specs.Prelude.{All, sum_by}
 use Rattle.std.specs.List.{flat_map, zip}
 use Rattle.std.specs.Map.{keys_of, values_of}
@@ -8,7 +8,6 @@ use Rattle.std.proofs.lemmas.List.Elements.{All-head, All-tail}
 use Rattle.std.proofs.lemmas.List.Sums.{sum_by_push, sum_by-cons}
 use Rattle.std.proofs.lemmas.Slice.Zip.{length-zip}
 use Rattle.std.proofs.lemmas.Map.Made.{keys_of-zip}
-use Rattle.path_graph.specs.declared.parts.GraphArc.{GraphArc}
 use Rattle.path_graph.specs.Walk.{GraphParts}
 use Rattle.path_graph.specs.Fit.{ArcFits}
 use Rattle.route_model.specs.Fit.{GraphFits, GraphMapsFit, MapFits}
@@ -17,8 +16,7 @@ use Rattle.model_text.specs.declared.draft.Stage.TheVariants.{Variables, Rows, S
 use Rattle.model_text.specs.declared.draft.Section.{Section}
 use Rattle.model_text.specs.declared.draft.Draft.{Draft}
 use Rattle.model_text.specs.declared.line_kind.LineKind.TheVariants as line
-use Rattle.model_text.specs.Wanted.{Words}
-use Rattle.model_text.specs.Draft.{in_section, sections_of, graph_of}
+use Rattle.model_text.specs.Draft.{sections_of, graph_of}
 use Rattle.model_text.specs.LineKinds.{may_stand}
 use Rattle.model_text.specs.ModelLines.{graph_lines}
 use Rattle.model_text.specs.Totals.{path_total, arc_total}

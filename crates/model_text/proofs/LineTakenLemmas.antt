@@ -1,24 +1,22 @@
 -- Lines are read as the lines that their words are.
-use Rattle.std.proofs.Common.{◌≡◌, ℕ, ◌+◌, Bool, true, false, List, [], ◌∷◌, ◌++◌, map, refl, ap, subst, sym, ◌∙◌, append_assoc, Option, None, Some, Result, Ok, Err}
-use Rattle.std.specs.Prelude.{All, filter, if◌then◌else◌, codes}
+use Rattle.std.proofs.Common.{◌≡◌, ℕ, ◌+◌, true, false, List, [], ◌∷◌, ◌++◌, map, refl, ap, subst, sym, ◌∙◌, append_assoc, None, Some, Result, Ok, Err}
+use Rattle.std.specs.Prelude.{All, filter, if◌then◌else◌}
 use Rattle.std.proofs.lemmas.List.{append-nil}
 use Rattle.std.proofs.lemmas.List.Elements.{All-head, All-tail}
 use Rattle.vrp_lex.specs.Text.{words_of, has_bad_byte, number_of}
-use Rattle.model_text.specs.declared.kind.Kind.{Kind}
 use Rattle.model_text.specs.declared.kind.Kind.TheVariants as fault
 use Rattle.model_text.specs.declared.kind.TextFault.{TextFault}
-use Rattle.model_text.specs.declared.draft.Stage.{Stage}
-use Rattle.model_text.specs.declared.draft.Stage.TheVariants.{Opening, Variables, Rows, Sets, Vertices, Arcs, Ended}
+use Rattle.model_text.specs.declared.draft.Stage.TheVariants.{Opening, Ended}
 use Rattle.model_text.specs.declared.draft.Draft.{Draft}
 use Rattle.model_text.specs.declared.line_kind.LineKind.{LineKind}
 use Rattle.model_text.specs.declared.line_kind.LineKind.TheVariants as line
 use Rattle.model_text.specs.Wanted.{Words, are_some_words}
 use Rattle.model_text.specs.LineKinds.{kind_of, may_stand, passes_limit, further_wanted}
-use Rattle.model_text.specs.FirstFault.{all_taken, line_of_kind, line_within, words_read, line_read, at_line, go_on, lines_read}
+use Rattle.model_text.specs.FirstFault.{all_taken, line_within, words_read, at_line, go_on, lines_read}
 use Rattle.model_text.specs.Spelling.{in_printed_form}
 use Rattle.model_text.proofs.NumberWordLemmas.{plain_is}
 use Rattle.model_text.proofs.ReaderLemmas.{words_read-within}
-use Rattle.model_text.proofs.TakenLemmas.{Takes, headed, no_items, by_true, by_false}
+use Rattle.model_text.proofs.TakenLemmas.{Takes, headed, by_true, by_false}
 
 -- the lines that have words, as their words
 abbrev pub wordy : List (List ℕ) → List Words
@@ -134,17 +132,17 @@ stays d =
 
 pub goes_on : {d e f : Draft} {forms others : List Words} → Goes d forms e → Goes e others f → Goes d (forms ++ others) f
 goes_on {forms = forms} {others = others} p q = record {
-      each = λ n lines more accepted e.
-          let first = p.each n lines (others ++ more) accepted (e ∙ append_assoc forms others more) in
-          let second = q.each first.number first.left more first.accepted first.words_left in
-          record {
-            number = second.number;
-            left = second.left;
-            accepted = second.accepted;
-            words_left = second.words_left;
-            same = first.same ∙ second.same;
-          };
-    }
+  each = λ n lines more accepted e.
+      let first = p.each n lines (others ++ more) accepted (e ∙ append_assoc forms others more) in
+      let second = q.each first.number first.left more first.accepted first.words_left in
+      record {
+        number = second.number;
+        left = second.left;
+        accepted = second.accepted;
+        words_left = second.words_left;
+        same = first.same ∙ second.same;
+      };
+}
 
 pub line_goes : {d e : Draft} (kind : LineKind) (first : List ℕ) (form : Words) → number_of first ≡ None → kind_of first ≡ Some kind → may_stand kind d.stage ≡ true → passes_limit kind d ≡ false → ((n : ℕ) → Takes (further_wanted kind d n) form e []) → Goes d ((first ∷ form) ∷ []) e
 line_goes {d} {e} kind first form plain known stands room takes = record { each = each }

@@ -1,6 +1,6 @@
 -- The words of a variable and of a row are taken as these.
-use Rattle.std.proofs.Common.{◌≡◌, ◌≢◌, ℕ, zero, suc, ◌+◌, ◌-◌, ◌≤◌, ◌<◌, ℤ, pos, neg_ℤ, unsigned_abs, ◌≤ℤ◌, Bool, true, false, not, List, [], ◌∷◌, ◌++◌, length, map, get_or, refl, ap, subst, sym, ◌∙◌, arith, Option, None, Some, Result, Ok, Err}
-use Rattle.std.specs.Prelude.{◌==◌, ◌||◌, int_lt, nat_lt, if◌then◌else◌, All, IfSome, sum_by, option_map, slice_get, codes, decimal}
+use Rattle.std.proofs.Common.{◌≡◌, ℕ, ◌+◌, ◌-◌, ◌≤◌, ◌<◌, ℤ, pos, neg_ℤ, unsigned_abs, Bool, true, false, not, List, [], ◌∷◌, ◌++◌, length, map, get_or, refl, ap, subst, sym, ◌∙◌, arith, Option, None, Some}
+use Rattle.std.specs.Prelude.{◌==◌, int_lt, nat_lt, if◌then◌else◌, All, IfSome, option_map, slice_get, codes, decimal}
 use Rattle.std.specs.List.{flat_map}
 use Rattle.std.specs.Fmt.{signed_decimal}
 use Rattle.std.specs.Str.{bytes_eq}
@@ -21,23 +21,17 @@ use Rattle.model_text.specs.LineWords.{var_wanted, side_wanted, last_of, is_abov
 use Rattle.model_text.specs.ModelText.{side_word, term_words}
 use Rattle.model_text.specs.Totals.{term_total}
 use Rattle.model_text.proofs.NumberWordLemmas.{number_is}
-use Rattle.model_text.proofs.TakenLemmas.{Takes, given, and_takes, and_none, unless, by_true, by_false, with_word, small_number, limited_taken, number_takes, known_takes, plain_word, other_word, items_taken}
-
-not_below : (a b : ℤ) → b ≤ℤ a → int_lt a b ≡ false
-not_below a b h = grind (arith, nat_tests, h)
-
-at_most_high : (low high most : ℤ) → low ≤ℤ high → high ≤ℤ most → low ≤ℤ most
-at_most_high low high most l h = grind (arith, l, h)
+use Rattle.model_text.proofs.TakenLemmas.{Takes, int_le_trans, at_least_test, given, and_takes, and_none, unless, by_true, by_false, with_word, small_number, limited_taken, number_takes, known_takes, plain_word, other_word, items_taken}
 
 pub var_takes : (v : Var) (left : Words) → VarFits v → Takes var_wanted (signed_decimal v.low ∷ signed_decimal v.high ∷ signed_decimal v.cost ∷ []) v left
 var_takes v left fit =
-    and_takes _ (number_takes (pos 0) (pos 1000000) v.low refl refl fit.low (at_most_high v.low v.high (pos 1000000) fit.sides fit.high))
-    (and_takes _ (number_takes (pos 0) (pos 1000000) v.high refl refl (at_most_high (pos 0) v.low v.high fit.low fit.sides) fit.high)
-    (unless fault.Box (int_lt v.high v.low) (not_below v.high v.low fit.sides)
+    and_takes _ (number_takes (pos 0) (pos 1000000) v.low refl refl fit.low (int_le_trans v.low v.high (pos 1000000) fit.sides fit.high))
+    (and_takes _ (number_takes (pos 0) (pos 1000000) v.high refl refl (int_le_trans (pos 0) v.low v.high fit.low fit.sides) fit.high)
+    (unless fault.Box (int_lt v.high v.low) (at_least_test v.high v.low fit.sides)
     (and_takes _ (number_takes (neg_ℤ (pos 1000000000)) (pos 1000000000) v.cost refl refl fit.cost.0 fit.cost.1) (given v left))))
 
 -- the sides of a row
-pub side_takes : (side : Option ℤ) → IfSome side (IsWithin 1000000000000) → (left : Words) → Takes side_wanted (side_word side ∷ []) side left
+side_takes : (side : Option ℤ) → IfSome side (IsWithin 1000000000000) → (left : Words) → Takes side_wanted (side_word side ∷ []) side left
 side_takes None fit left =
     with_word (λ w e. ap (λ (m : Wants (Option ℤ)). m left) (by_true (give None) (limited_word (neg_ℤ (pos 1000000000000)) (pos 1000000000000) w >>= (λ side. give (Some side))) (bytes_eq w (codes "*")) (plain_word w (codes "*") refl e)))
 side_takes (Some z) fit left =
@@ -50,10 +44,10 @@ not_reversed : (low high : Option ℤ) → SidesFit low high → are_reversed lo
 not_reversed None None fit = refl
 not_reversed None (Some high) fit = refl
 not_reversed (Some low) None fit = refl
-not_reversed (Some low) (Some high) fit = not_below high low fit.order
+not_reversed (Some low) (Some high) fit = at_least_test high low fit.order
 
 -- of keys that ascend each is above the last of those before it
-pub is_above_last : {X : Type 0} (key : X → ℕ) (front : List X) (x : X) (back : List X) → Ascends key (front ++ x ∷ back) → is_above (option_map key (last_of front)) (key x) ≡ true
+is_above_last : {X : Type 0} (key : X → ℕ) (front : List X) (x : X) (back : List X) → Ascends key (front ++ x ∷ back) → is_above (option_map key (last_of front)) (key x) ≡ true
 is_above_last key [] x back up = refl
 is_above_last {X} key (f ∷ fs) x back up =
     let front : List X = f ∷ fs in
@@ -68,7 +62,7 @@ is_above_last {X} key (f ∷ fs) x back up =
     let told : nat_lt (key (get_or front (length front - 1) x)) (key x) ≡ true = grind (arith, nat_tests, less) in
     ap (λ o. is_above (option_map key o) (key x)) last ∙ told
 
-pub true_not : (b : Bool) → b ≡ true → not b ≡ false
+true_not : (b : Bool) → b ≡ true → not b ≡ false
 true_not true h = refl
 true_not false h = cc
 

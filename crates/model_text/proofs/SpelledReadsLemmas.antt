@@ -1,21 +1,18 @@
 -- A text that spells a model is read as that model.
-use Rattle.std.proofs.Common.{◌≡◌, ℕ, ◌+◌, ◌≤◌, ◌<◌, Bool, true, false, List, [], ◌∷◌, ◌++◌, length, get_or, map, refl, ap, subst, sym, ◌∙◌, arith, Option, None, Some, Result, Ok, Err}
+use Rattle.std.proofs.Common.{◌≡◌, ℕ, ◌+◌, ◌≤◌, true, List, [], ◌∷◌, ◌++◌, length, get_or, map, refl, ap, subst, sym, ◌∙◌, arith, Result, Ok}
 use Rattle.std.specs.Prelude.{All, Any, codes, sum_by}
 use Rattle.std.specs.List.{flat_map, zip}
-use Rattle.std.specs.Map.{keys_of, values_of}
+use Rattle.std.specs.Map.{keys_of}
 use Rattle.std.proofs.lemmas.List.{get_or_default}
 use Rattle.std.proofs.lemmas.Slice.Zip.{length-zip}
 use Rattle.std.proofs.lemmas.Map.Made.{keys_of-zip}
 use Rattle.path_graph.specs.Walk.{GraphParts}
-use Rattle.path_graph.specs.Free.{IsFreeCycle}
-use Rattle.route_model.specs.declared.parts.Var.{Var}
 use Rattle.route_model.specs.declared.parts.Row.{Row}
 use Rattle.route_model.specs.Parts.{ModelParts, graph_in, maps_in}
-use Rattle.route_model.specs.Fit.{ModelFits, IsModel, GraphFits, GraphMapsFit}
+use Rattle.route_model.specs.Fit.{ModelFits, GraphFits, GraphMapsFit}
 use Rattle.vrp_lex.specs.Text.{lines_of}
 use Rattle.model_text.specs.declared.kind.TextFault.{TextFault}
-use Rattle.model_text.specs.declared.draft.Stage.{Stage}
-use Rattle.model_text.specs.declared.draft.Stage.TheVariants.{Variables, Rows, Ended}
+use Rattle.model_text.specs.declared.draft.Stage.TheVariants.{Variables, Ended}
 use Rattle.model_text.specs.declared.draft.Section.{Section}
 use Rattle.model_text.specs.declared.draft.Draft.{Draft}
 use Rattle.model_text.specs.declared.line_kind.LineKind.TheVariants as line
@@ -29,7 +26,7 @@ use Rattle.model_text.specs.Spelling.{in_printed_form, Spells, IsSetsPart}
 use Rattle.model_text.proofs.ItemLemmas.{All-zip}
 use Rattle.model_text.proofs.TextFitLemmas.{sum_by-map}
 use Rattle.model_text.proofs.TakenLemmas.{given, headed, no_items, by_false}
-use Rattle.model_text.proofs.LineTakenLemmas.{wordy, AreAccepted, IsNext, next_line, no_words_read, line_told, printed_lines, Remains, Goes, goes_on}
+use Rattle.model_text.proofs.LineTakenLemmas.{wordy, AreAccepted, next_line, no_words_read, line_told, printed_lines, Goes, goes_on}
 use Rattle.model_text.proofs.DraftTakenLemmas.{vars_go, rows_go, with_rows, rows_stage, SetsGone, sets_go}
 use Rattle.model_text.proofs.GraphsTakenLemmas.{Pair, PairFits, values_of-zip, whole_section, with_graphs, GraphsRoom, graphs_go, with_graphs-vars, with_graphs-rows, with_graphs-sets, with_graphs-sections, with_graphs-stage, graphs_of_sections, maps_of_sections}
 
@@ -123,8 +120,8 @@ end_read d n lines stands accepted e =
     let told = line_told line.End (codes "end") d (ended d k) [] k refl refl stands refl (given (ended d k) []) split.first split.head in (
       k,
       next.same
-      ∙ (ap (λ r. go_on (at_line k r) (λ x. lines_read x (k + 1) next.left)) told
-      ∙ no_words_read (ended d k) (k + 1) next.left next.accepted next.words_left),
+          ∙ (ap (λ r. go_on (at_line k r) (λ x. lines_read x (k + 1) next.left)) told
+          ∙ no_words_read (ended d k) (k + 1) next.left next.accepted next.words_left),
     )
 
 -- all lines of a text that spells a model

@@ -9,7 +9,7 @@ use Rattle.model_text.specs.Draft.{parts_of}
 use Rattle.model_text.specs.FreeCycles.{HasFreeCycle}
 use Rattle.model_text.specs.FirstFault.{text_read, IsModelOf, IsFaultOf, IsFirstTextFault, ReadsAs}
 use Rattle.model_text.specs.Spelling.{Spells, SpellsNothing}
-use Rattle.model_text.proofs.SpellsBothLemmas.{spelled_reads}
+use Rattle.model_text.proofs.SpelledReadsLemmas.{spelled_reads}
 
 model_of_one : (r : Result Draft TextFault) (m n : ModelParts) → IsModelOf r m → IsModelOf r n → m ≡ n
 model_of_one (Err first) m n p q = absurd p

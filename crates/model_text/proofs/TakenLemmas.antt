@@ -1,6 +1,6 @@
 -- Words in printed form are taken as what they spell: what is wanted one after the other.
-use Rattle.std.proofs.Common.{◌≡◌, ℕ, zero, suc, ◌+◌, ◌^◌, ◌≤◌, ◌<◌, ℤ, pos, negsuc, neg_ℤ, unsigned_abs, ◌≤ℤ◌, Bool, true, false, not, List, [], ◌∷◌, ◌++◌, length, map, refl, ap, subst, sym, ◌∙◌, arith, append_assoc, Option, None, Some, Result, Ok, Err}
-use Rattle.std.specs.Prelude.{◌==◌, ◌||◌, int_lt, nat_lt, decimal, if◌then◌else◌}
+use Rattle.std.proofs.Common.{◌≡◌, ℕ, zero, suc, ◌^◌, ◌≤◌, ◌<◌, ℤ, pos, negsuc, neg_ℤ, unsigned_abs, ◌≤ℤ◌, Bool, true, false, not, List, [], ◌∷◌, ◌++◌, length, map, refl, ap, sym, ◌∙◌, arith, append_assoc, None, Some, Result, Ok}
+use Rattle.std.specs.Prelude.{◌||◌, int_lt, nat_lt, decimal, if◌then◌else◌}
 use Rattle.std.specs.List.{flat_map}
 use Rattle.std.specs.Fmt.{signed_decimal}
 use Rattle.std.specs.Str.{bytes_eq}
@@ -29,14 +29,14 @@ headed view [] y ys e = cc
 headed view (x ∷ xs) y ys e = record { first = x; others = xs; is = refl; head = cc; tail = cc }
 
 -- a list whose image is two lists
-pub record Parted {X Y : Type 0} (view : X → Y) (xs : List X) (ys zs : List Y) : Type 0 where
+record Parted {X Y : Type 0} (view : X → Y) (xs : List X) (ys zs : List Y) : Type 0 where
   pub first : List X
   pub second : List X
   pub is : xs ≡ first ++ second
   pub front : map view first ≡ ys
   pub back : map view second ≡ zs
 
-pub parted : {X Y : Type 0} (view : X → Y) (xs : List X) (ys zs : List Y) → map view xs ≡ ys ++ zs → Parted view xs ys zs
+parted : {X Y : Type 0} (view : X → Y) (xs : List X) (ys zs : List Y) → map view xs ≡ ys ++ zs → Parted view xs ys zs
 parted view xs [] zs e = record { first = []; second = xs; is = refl; front = refl; back = e }
 parted view [] (y ∷ ys) zs e = cc
 parted view (x ∷ xs) (y ∷ ys) zs e =
@@ -103,16 +103,19 @@ with_word {next = next} {form = form} {x = x} {left = left} p = record { each = 
 number_taken : (w : List ℕ) (z : ℤ) (left : Words) → number_of w ≡ Some z → number_of_word w left ≡ Ok (z, left)
 number_taken w z left e = rw e refl
 
-not_below : (a b : ℤ) → b ≤ℤ a → int_lt a b ≡ false
-not_below a b h = grind (arith, nat_tests, h)
+pub int_le_trans : (a b c : ℤ) → a ≤ℤ b → b ≤ℤ c → a ≤ℤ c
+int_le_trans a b c l h = grind (arith, l, h)
 
-neither : (a b : Bool) → a ≡ false → b ≡ false → (a || b) ≡ false
+pub at_least_test : (a b : ℤ) → b ≤ℤ a → int_lt a b ≡ false
+at_least_test a b h = grind (arith, nat_tests, h)
+
+pub neither : (a b : Bool) → a ≡ false → b ≡ false → (a || b) ≡ false
 neither true b p q = cc
 neither false b p q = q
 
 pub limited_taken : (low high : ℤ) (w : List ℕ) (z : ℤ) (left : Words) → low ≤ℤ z → z ≤ℤ high → number_of w ≡ Some z → limited_word low high w left ≡ Ok (z, left)
 limited_taken low high w z left l h e =
-    let none = neither (int_lt z low) (int_lt high z) (not_below z low l) (not_below high z h) in
+    let none = neither (int_lt z low) (int_lt high z) (at_least_test z low l) (at_least_test high z h) in
     ap (λ r. and_then r (λ y. fault_if fault.Range (int_lt y low || int_lt high y) >> give y)) (number_taken w z left e)
     ∙ ap (λ b. (fault_if fault.Range b >> give z) left) none
 
@@ -140,7 +143,7 @@ natural_takes low high n wide l h left =
 
 below_not : (n count : ℕ) → n < count → (int_lt (pos n) (pos 0) || not (nat_lt n count)) ≡ false
 below_not n count h =
-    let first : int_lt (pos n) (pos 0) ≡ false = not_below (pos n) (pos 0) (grind arith) in
+    let first : int_lt (pos n) (pos 0) ≡ false = at_least_test (pos n) (pos 0) (grind arith) in
     let second : not (nat_lt n count) ≡ false = grind (arith, nat_tests, h) in
     neither (int_lt (pos n) (pos 0)) (not (nat_lt n count)) first second
 

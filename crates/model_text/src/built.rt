@@ -1,4 +1,5 @@
 ghost use Rattle.std.specs.Prelude.{◌≡◌, ◌++◌, ◌∷◌, [], All, Any, Ok, map, IfOk, IfErr, OnOk};
+ghost use Rattle.path_graph.specs.Free.{HasNoFreeCycle};
 ghost use Rattle.model_text.specs.Draft.{graph_of, SectionPartsFit};
 ghost use Rattle.model_text.specs.FreeCycles.{HasFreeCycle};
 ghost use Rattle.model_text.specs.FirstFault.{IsModelOf};
@@ -19,7 +20,7 @@ fn push_graph(
 ) -> Result<(), GraphFault>
     requires { SectionPartsFit section.now }
     ensures graph { OnOk result (graphs.new ≡ graphs.old ++ graph_of section.now ∷ []) }
-    ensures acyclic { OnOk result (HasFreeCycle (graph_of section.now) → ⊥) }
+    ensures acyclic { OnOk result (HasNoFreeCycle section.now.arcs) }
     ensures cycle { IfErr result (HasCycleWhere (HasFreeCycle (graph_of section.now))) }
 {
     let graph = Graph::new(
@@ -36,7 +37,7 @@ fn push_graph(
 fn graphs_of(alloc: Global, sections: &[Section]) -> Result<List<Graph>, GraphFault>
     requires { All SectionPartsFit sections.now }
     ensures graphs { IfOk result (λ graphs. graphs ≡ map graph_of sections.now) }
-    ensures acyclic { IfOk result (λ _. Any HasFreeCycle (map graph_of sections.now) → ⊥) }
+    ensures acyclic { OnOk result (All (λ s. HasNoFreeCycle s.arcs) sections.now) }
     ensures cycle { IfErr result (HasCycleWhere (Any HasFreeCycle (map graph_of sections.now))) }
 {
     let mut graphs = List::new(alloc);
