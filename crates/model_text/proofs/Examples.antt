@@ -11,8 +11,6 @@ use Rattle.route_model.specs.declared.plan.Taken.{Taken}
 use Rattle.route_model.specs.Parts.{ModelParts}
 use Rattle.model_text.specs.Lines.{path_line}
 use Rattle.model_text.specs.ModelText.{model_text}
-use Rattle.model_text.specs.Guess.{parts_of}
-use Rattle.model_text.specs.Bytes.{guess_of}
 
 abbrev var : ℤ → ℤ → ℤ → Var
 var low high cost = record { low = low; high = high; cost = cost }
@@ -87,8 +85,6 @@ pub two_customers_printed : model_text two_customers ≡ two_customers_text
 unfolding digits
 two_customers_printed = refl
 
-pub two_customers_read : parts_of (guess_of two_customers_text) ≡ two_customers
-two_customers_read = refl
 
 -- two graphs of which one has a secondary resource and the other two main ones, two sets, open sides
 abbrev pub two_graphs : ModelParts

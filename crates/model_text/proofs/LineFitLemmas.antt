@@ -24,7 +24,7 @@ use Rattle.model_text.proofs.GraphFitLemmas.{vertex_wanted-fits, arc_wanted-fits
 use Rattle.model_text.proofs.DraftFitLemmas.{SectionFits, SectionsFit, DraftFits, with_vertex-fits, with_arc-fits, begun_section-fits, more_sections, changed_section, in_section-fits, no_rows-fit, no_sections-fit, terms_begin, more_rows}
 
 -- a draft at a stage
-abbrev at : Stage → Draft → Draft
+abbrev pub at : Stage → Draft → Draft
 at stage d = record d { stage = stage }
 
 more_vars : (vars : List Var) (v : Var) → VarsFit vars → length vars < 30000 → VarFits v → VarsFit (vars ++ v ∷ [])

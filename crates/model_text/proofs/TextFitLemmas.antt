@@ -28,17 +28,17 @@ use Rattle.model_text.proofs.FitLemmas.{GivesOnly}
 use Rattle.model_text.proofs.DraftFitLemmas.{SectionFits, DraftFits, graph_fits, no_rows-fit, no_sections-fit}
 use Rattle.model_text.proofs.LineFitLemmas.{further_wanted-fits}
 
-taken : (r : Result (Draft × Words) Kind) (e : Draft) → all_taken r ≡ Ok e → r ≡ Ok (e, [])
+pub taken : {A : Type 0} (r : Result (A × Words) Kind) (e : A) → all_taken r ≡ Ok e → r ≡ Ok (e, [])
 taken (Err kind) e h = cc
 taken (Ok (d, [])) e h = cc
 taken (Ok (d, w ∷ words)) e h = cc
 
 -- a result comes of the arm that gives one
-then_arm : (b : Bool) (r : Result Draft Kind) (kind : Kind) (e : Draft) → (if b then r else Err kind) ≡ Ok e → (b ≡ true) × (r ≡ Ok e)
+pub then_arm : {A : Type 0} (b : Bool) (r : Result A Kind) (kind : Kind) (e : A) → (if b then r else Err kind) ≡ Ok e → (b ≡ true) × (r ≡ Ok e)
 then_arm true r kind e h = (refl, h)
 then_arm false r kind e h = cc
 
-else_arm : (b : Bool) (r : Result Draft Kind) (kind : Kind) (e : Draft) → (if b then Err kind else r) ≡ Ok e → (b ≡ false) × (r ≡ Ok e)
+pub else_arm : {A : Type 0} (b : Bool) (r : Result A Kind) (kind : Kind) (e : A) → (if b then Err kind else r) ≡ Ok e → (b ≡ false) × (r ≡ Ok e)
 else_arm true r kind e h = cc
 else_arm false r kind e h = (refl, h)
 
@@ -69,12 +69,12 @@ words_read-fits d e Sets n (first ∷ words) fit h = line_within-fits _ e n word
 words_read-fits d e Vertices n (first ∷ words) fit h = line_within-fits _ e n words (kind_of first) fit h
 words_read-fits d e Arcs n (first ∷ words) fit h = line_within-fits _ e n words (kind_of first) fit h
 
-line_read-fits : (d e : Draft) (n : ℕ) (line : List ℕ) → DraftFits d → line_read d n line ≡ Ok e → DraftFits e
+pub line_read-fits : (d e : Draft) (n : ℕ) (line : List ℕ) → DraftFits d → line_read d n line ≡ Ok e → DraftFits e
 line_read-fits d e n line fit h =
     let good = else_arm (has_bad_byte line) (words_read d d.stage n (words_of line)) fault.Byte e h in
     words_read-fits d e d.stage n (words_of line) fit good.1
 
-next_of : (n : ℕ) (r : Result Draft Kind) (next : Draft → Result Draft TextFault) (e : Draft) → go_on (at_line n r) next ≡ Ok e → (d : Draft) × (r ≡ Ok d) × (next d ≡ Ok e)
+pub next_of : {A B : Type 0} (n : ℕ) (r : Result A Kind) (next : A → Result B TextFault) (e : B) → go_on (at_line n r) next ≡ Ok e → (d : A) × (r ≡ Ok d) × (next d ≡ Ok e)
 next_of n (Ok d) next e h = (d, refl, h)
 next_of n (Err kind) next e h = cc
 
@@ -84,7 +84,7 @@ lines_read-fits d e n (line ∷ lines) fit h =
     let next = next_of n (line_read d n line) (λ f. lines_read f (n + 1) lines) e h in
     lines_read-fits next.0 e (n + 1) lines (line_read-fits d next.0 n line fit next.1) next.2
 
-empty_fits : DraftFits empty_draft
+pub empty_fits : DraftFits empty_draft
 empty_fits =
     record {
       vars = record { few = omega arith; each = All-nil VarFits };
@@ -109,7 +109,7 @@ ended text d e Sets is h = cc
 ended text d e Vertices is h = cc
 ended text d e Arcs is h = cc
 
-after_lines : (r : Result Draft TextFault) (text : List ℕ) (e : Draft) → go_on r (end_wanted text) ≡ Ok e → (r ≡ Ok e) × (e.stage ≡ Ended)
+pub after_lines : (r : Result Draft TextFault) (text : List ℕ) (e : Draft) → go_on r (end_wanted text) ≡ Ok e → (r ≡ Ok e) × (e.stage ≡ Ended)
 after_lines (Err f) text e h = cc
 after_lines (Ok d) text e h = let end = ended text d e d.stage refl h in (ap (λ x. Ok x) end.0, end.1)
 
@@ -118,7 +118,7 @@ text_read-fits text d h =
     let parts = after_lines (lines_read empty_draft 1 (lines_of text)) text d h in
     (lines_read-fits empty_draft d 1 (lines_of text) empty_fits parts.0, parts.1)
 
-sum_by-map : {X Y : Type 0} (f : Y → ℕ) (h : X → Y) (n : ℕ) (xs : List X) → fold (λ a y. a + f y) n (map h xs) ≡ fold (λ a x. a + f (h x)) n xs
+pub sum_by-map : {X Y : Type 0} (f : Y → ℕ) (h : X → Y) (n : ℕ) (xs : List X) → fold (λ a y. a + f y) n (map h xs) ≡ fold (λ a x. a + f (h x)) n xs
 sum_by-map f h n [] = refl
 sum_by-map f h n (x ∷ xs) = sum_by-map f h (n + f (h x)) xs
 

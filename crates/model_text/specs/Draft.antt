@@ -4,6 +4,7 @@ use Rattle.path_graph.specs.declared.parts.Vertex.{Vertex}
 use Rattle.path_graph.specs.declared.parts.GraphArc.{GraphArc}
 use Rattle.path_graph.specs.declared.parts.Ends.{Ends}
 use Rattle.path_graph.specs.Walk.{GraphParts}
+use Rattle.path_graph.specs.Fit.{PartsFit}
 use Rattle.route_model.specs.Parts.{ModelParts}
 use Rattle.model_text.specs.declared.draft.Stage.{Stage}
 use Rattle.model_text.specs.declared.draft.Stage.TheVariants.{Opening, Vertices, Arcs}
@@ -59,3 +60,7 @@ parts_of d =
       graphs = map graph_of (sections_of d);
       maps = map (λ s. s.maps) (sections_of d);
     }
+
+-- the parts of a graph keep the limits of one
+abbrev pub SectionPartsFit : Section → Type 0
+SectionPartsFit s = PartsFit s.ends s.vertices s.arcs

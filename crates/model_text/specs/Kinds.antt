@@ -1,7 +1,7 @@
 -- The numbers and names of the kinds of faults.
 use Rattle.std.specs.Prelude.{ℕ, List, codes}
 use Rattle.model_text.specs.declared.kind.Kind.{Kind}
-use Rattle.model_text.specs.declared.kind.Kind.TheVariants.{Version, Word, Number, Range, Order, Unknown, EndMissing, AfterEnd, Ends, Window, MainNegative, FreeCycle, Box, CostRange, TooMany, Byte, Unbuilt}
+use Rattle.model_text.specs.declared.kind.Kind.TheVariants.{Version, Word, Number, Range, Order, Unknown, EndMissing, AfterEnd, Ends, Window, MainNegative, FreeCycle, Box, CostRange, TooMany, Byte}
 
 abbrev pub kind_number : Kind → ℕ
 kind_number Version = 1
@@ -20,7 +20,6 @@ kind_number Box = 13
 kind_number CostRange = 14
 kind_number TooMany = 15
 kind_number Byte = 16
-kind_number Unbuilt = 17
 
 -- a kind as answers name it
 abbrev pub kind_name : Kind → List ℕ
@@ -40,4 +39,3 @@ kind_name Box = codes "Box"
 kind_name CostRange = codes "CostRange"
 kind_name TooMany = codes "TooMany"
 kind_name Byte = codes "Byte"
-kind_name Unbuilt = codes "Unbuilt"

@@ -1,9 +1,6 @@
 pub mod Lines
 pub mod ModelText
-pub mod SmallForm
 pub mod Kinds
-pub mod Guess
-pub mod Bytes
 pub mod Wanted
 pub mod Gives
 pub mod Draft
@@ -14,3 +11,9 @@ pub mod LineKinds
 pub mod FirstFault
 pub mod ModelLines
 pub mod Spelling
+pub mod PathText
+pub mod PathFault
+pub mod PathCounts
+pub mod ModelEnd
+pub mod Refusal
+pub mod Built

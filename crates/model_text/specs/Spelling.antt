@@ -31,3 +31,6 @@ pub record Spells (text : List ℕ) (m : ModelParts) : Type 0 where
   pub sets_part : IsSetsPart m.sets sets
   pub words : map (map in_printed_form) lines ≡ model_lines m sets
   pub model : IsModel m
+
+abbrev pub SpellsNothing : List ℕ → Type 0
+SpellsNothing text = (m : ModelParts) → Spells text m → ⊥

@@ -22,8 +22,6 @@ pub enum Kind {
     CostRange = 14,
     TooMany = 15,
     Byte = 16,
-    /// The text is not of the form that is read so far.
-    Unbuilt = 17,
 }
 
 impl Kind {
@@ -55,7 +53,6 @@ impl Kind {
             Kind::CostRange => "CostRange",
             Kind::TooMany => "TooMany",
             Kind::Byte => "Byte",
-            Kind::Unbuilt => "Unbuilt",
         }
     }
 }
