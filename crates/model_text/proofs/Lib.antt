@@ -31,3 +31,4 @@ pub mod GraphLineTakenLemmas
 pub mod GraphsTakenLemmas
 pub mod SpelledReadsLemmas
 pub mod SpellsLawLemmas
+pub mod ReadModelLemmas
