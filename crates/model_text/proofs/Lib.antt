@@ -32,3 +32,11 @@ pub mod GraphsTakenLemmas
 pub mod SpelledReadsLemmas
 pub mod SpellsLawLemmas
 pub mod ReadModelLemmas
+pub mod EndLineLemmas
+pub mod PathWordLemmas
+pub mod PathSpendLemmas
+pub mod PathTakenLemmas
+pub mod PlanReadsLemmas
+pub mod PlanSpelledLemmas
+pub mod PlanTextLemmas
+pub mod PathExamples

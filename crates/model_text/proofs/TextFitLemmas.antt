@@ -28,17 +28,17 @@ use Rattle.model_text.proofs.FitLemmas.{GivesOnly}
 use Rattle.model_text.proofs.DraftFitLemmas.{SectionFits, DraftFits, graph_fits, no_rows-fit, no_sections-fit}
 use Rattle.model_text.proofs.LineFitLemmas.{further_wanted-fits}
 
-pub taken : (r : Result (Draft × Words) Kind) (e : Draft) → all_taken r ≡ Ok e → r ≡ Ok (e, [])
+pub taken : {A : Type 0} (r : Result (A × Words) Kind) (e : A) → all_taken r ≡ Ok e → r ≡ Ok (e, [])
 taken (Err kind) e h = cc
 taken (Ok (d, [])) e h = cc
 taken (Ok (d, w ∷ words)) e h = cc
 
 -- a result comes of the arm that gives one
-pub then_arm : (b : Bool) (r : Result Draft Kind) (kind : Kind) (e : Draft) → (if b then r else Err kind) ≡ Ok e → (b ≡ true) × (r ≡ Ok e)
+pub then_arm : {A : Type 0} (b : Bool) (r : Result A Kind) (kind : Kind) (e : A) → (if b then r else Err kind) ≡ Ok e → (b ≡ true) × (r ≡ Ok e)
 then_arm true r kind e h = (refl, h)
 then_arm false r kind e h = cc
 
-pub else_arm : (b : Bool) (r : Result Draft Kind) (kind : Kind) (e : Draft) → (if b then Err kind else r) ≡ Ok e → (b ≡ false) × (r ≡ Ok e)
+pub else_arm : {A : Type 0} (b : Bool) (r : Result A Kind) (kind : Kind) (e : A) → (if b then Err kind else r) ≡ Ok e → (b ≡ false) × (r ≡ Ok e)
 else_arm true r kind e h = cc
 else_arm false r kind e h = (refl, h)
 
@@ -74,7 +74,7 @@ line_read-fits d e n line fit h =
     let good = else_arm (has_bad_byte line) (words_read d d.stage n (words_of line)) fault.Byte e h in
     words_read-fits d e d.stage n (words_of line) fit good.1
 
-pub next_of : (n : ℕ) (r : Result Draft Kind) (next : Draft → Result Draft TextFault) (e : Draft) → go_on (at_line n r) next ≡ Ok e → (d : Draft) × (r ≡ Ok d) × (next d ≡ Ok e)
+pub next_of : {A B : Type 0} (n : ℕ) (r : Result A Kind) (next : A → Result B TextFault) (e : B) → go_on (at_line n r) next ≡ Ok e → (d : A) × (r ≡ Ok d) × (next d ≡ Ok e)
 next_of n (Ok d) next e h = (d, refl, h)
 next_of n (Err kind) next e h = cc
 

@@ -18,10 +18,10 @@ use Rattle.model_text.specs.LineKinds.{version_words, kind_of, may_stand, passes
 use Rattle.model_text.specs.FreeCycles.{HasFreeCycle}
 
 -- no word is left; a word too many is Word
-abbrev pub all_taken : Result (Draft × Words) Kind → Result Draft Kind
+abbrev pub all_taken : {A : Type 0} → Result (A × Words) Kind → Result A Kind
 all_taken (Err kind) = Err kind
-all_taken (Ok (d, [])) = Ok d
-all_taken (Ok (d, w ∷ words)) = Err fault.Word
+all_taken (Ok (x, [])) = Ok x
+all_taken (Ok (x, w ∷ words)) = Err fault.Word
 
 -- a line of a kind: whether it may stand here, then whether there are too many, then its further words, then a word too many
 abbrev pub line_of_kind : Draft → ℕ → Words → LineKind → Result Draft Kind
@@ -49,12 +49,12 @@ line_read d number line =
     if has_bad_byte line then Err fault.Byte else words_read d d.stage number (words_of line)
 
 -- a fault in a line has the number of the line
-abbrev pub at_line : ℕ → Result Draft Kind → Result Draft TextFault
-at_line number (Ok d) = Ok d
+abbrev pub at_line : {A : Type 0} → ℕ → Result A Kind → Result A TextFault
+at_line number (Ok x) = Ok x
 at_line number (Err kind) = Err (record { line = number; kind = kind })
 
-abbrev pub go_on : Result Draft TextFault → (Draft → Result Draft TextFault) → Result Draft TextFault
-go_on (Ok d) next = next d
+abbrev pub go_on : {A B : Type 0} → Result A TextFault → (A → Result B TextFault) → Result B TextFault
+go_on (Ok x) next = next x
 go_on (Err fault) next = Err fault
 
 -- the lines from this number on: the first fault is that of the first faulty line

@@ -11,5 +11,9 @@ pub mod LineKinds
 pub mod FirstFault
 pub mod ModelLines
 pub mod Spelling
+pub mod PathText
+pub mod PathFault
+pub mod PathCounts
+pub mod ModelEnd
 pub mod Refusal
 pub mod Built
