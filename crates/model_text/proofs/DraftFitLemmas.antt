@@ -18,7 +18,7 @@ use Rattle.model_text.specs.declared.draft.Stage.TheVariants.{Opening, Variables
 use Rattle.model_text.specs.declared.draft.Section.{Section}
 use Rattle.model_text.specs.declared.draft.Draft.{Draft}
 use Rattle.model_text.specs.declared.line_kind.LineKind.TheVariants as line
-use Rattle.model_text.specs.Draft.{begun_section, with_vertex, with_arc, stage_in, in_section, sections_of, graph_of}
+use Rattle.model_text.specs.Draft.{begun_section, with_vertex, with_arc, stage_in, in_section, sections_of, graph_of, SectionPartsFit}
 use Rattle.model_text.specs.LineKinds.{passes_limit, further_wanted}
 use Rattle.model_text.specs.Totals.{term_total, path_total, arc_total}
 use Rattle.model_text.proofs.FitLemmas.{GivesOnly, given, after, var_wanted-fits}
@@ -115,32 +115,31 @@ begun_section-fits vars sets count ends some few fits =
       maps = All-nil (MapFits vars);
     }
 
--- a graph with all its vertices and without cycles is one of a model
-pub graph_fits : (vars sets : ℕ) (s : Section) → HasNoFreeCycle s.arcs → SectionFits vars sets s → GraphFits sets (graph_of s) × GraphMapsFit vars (graph_of s) s.maps
-graph_fits vars sets s acyclic fit =
+-- a graph with all its vertices keeps the limits of one; without cycles it is one of a model
+pub section_parts_fit : (vars sets : ℕ) (s : Section) → SectionFits vars sets s → SectionPartsFit s
+section_parts_fit vars sets s fit =
     let b = fit.begun in
     let count = sym fit.whole in
-    let ends = rw count at b.ends in (
-      record {
-        graph =
-            record {
-              fits =
-                  record {
-                    some_vertices = rw (← count) b.some_vertices;
-                    few_vertices = rw (← count) b.few_vertices;
-                    few_arcs = b.few_arcs;
-                    ends_fit = ends;
-                    source_free = b.source_free ends.source;
-                    sink_free = b.sink_free ends.sink;
-                    each_vertex = b.vertices;
-                    each_arc = rw count at b.arcs;
-                  };
-              acyclic = acyclic;
-            };
-        declared = b.declared;
-      },
-      record { arcs = b.mapped; each = b.maps },
-    )
+    let ends = rw count at b.ends in
+    record {
+      some_vertices = rw (← count) b.some_vertices;
+      few_vertices = rw (← count) b.few_vertices;
+      few_arcs = b.few_arcs;
+      ends_fit = ends;
+      source_free = b.source_free ends.source;
+      sink_free = b.sink_free ends.sink;
+      each_vertex = b.vertices;
+      each_arc = rw count at b.arcs;
+    }
+
+pub graph_fits : (vars sets : ℕ) (s : Section) → HasNoFreeCycle s.arcs → SectionFits vars sets s → GraphFits sets (graph_of s) × GraphMapsFit vars (graph_of s) s.maps
+graph_fits vars sets s acyclic fit = (
+  record {
+    graph = record { fits = section_parts_fit vars sets s fit; acyclic = acyclic };
+    declared = fit.begun.declared;
+  },
+  record { arcs = fit.begun.mapped; each = fit.begun.maps },
+)
 
 pub with_arc-fits : (vars sets : ℕ) (s : Section) (arc : GraphArc) (mapped : List ℕ) → SectionFits vars sets s → length s.arcs < 60000 → ArcFits s.ends (length s.vertices) arc → MapFits vars mapped → BegunFits vars sets (with_arc s arc mapped)
 with_arc-fits vars sets s arc mapped fit few fits maps =

@@ -31,6 +31,7 @@ pub mod GraphLineTakenLemmas
 pub mod GraphsTakenLemmas
 pub mod SpelledReadsLemmas
 pub mod SpellsLawLemmas
+pub mod ReadModelLemmas
 pub mod EndLineLemmas
 pub mod PathWordLemmas
 pub mod PathSpendLemmas

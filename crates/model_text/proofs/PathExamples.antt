@@ -112,8 +112,8 @@ empty_text = refl
 end_and_paths : model_end (codes "vrpmodel 1\nend # a\npath 0 1 3\nend\n") ≡ 19
 end_and_paths = refl
 
-end_without_lf : model_end (codes "vrpmodel 1\n\t end 3") ≡ 17
+end_without_lf : model_end (codes "vrpmodel 1\n\t end 3") ≡ 18
 end_without_lf = refl
 
-no_end : model_end (codes "vrpmodel 1\nends\n1 end\n#end\n") ≡ 28
+no_end : model_end (codes "vrpmodel 1\nends\n1 end\n#end\n") ≡ 27
 no_end = refl

@@ -17,7 +17,7 @@ fn print_paths(text: &mut LineWriter, paths: &[Taken]) -> Result<(), NoMemory>
     Ok(())
 }
 
-/// The printed text of a plan: the one text in printed form that spells it.
+/// The printed text of a plan.
 ///
 /// There is one blank between words, no comment, no leading zero, and LF after each line. The time is linear in the
 /// text.

@@ -85,7 +85,7 @@ fn read_paths(alloc: Global, text: &[u8]) -> Result<List<Taken>, ReadError>
 /// The plan that a path text spells.
 ///
 /// Lines, words, numbers and comments are those of model texts. Each line is `path GRAPH COUNT ARC ..`, with one arc or
-/// more, and `end` is the last. A fault is the first one of the text: an unknown graph or arc is none. The time is
+/// more, and `end` is the last. An unknown graph or arc is no fault: the judge of plans looks at these. The time is
 /// linear in the text, but for the count of each graph so far, which is looked up in a tree for each path.
 pub fn read_plan(alloc: Global, bytes: &[u8]) -> Result<Plan, ReadError>
     requires { length bytes.now < 2 ^ 32 - 1 }

@@ -2,6 +2,8 @@ ghost use Rattle.std.specs.Prelude.{ℕ, ◌≡◌, ◌<◌, ◌≤◌, ◌++◌
 ghost use Rattle.std.specs.Fmt.{signed_decimal, decimal};
 ghost use Rattle.std.specs.List.{flat_map, zip};
 ghost use Rattle.route_model.specs.Parts.{graph_in, maps_in};
+ghost use Rattle.route_model.specs.Fit.{IsModel};
+ghost use Rattle.model_text.specs.Spelling.{Spells};
 ghost use Rattle.model_text.specs.ModelText.{var_line, side_word, term_words, row_line, sets_line, graph_line, used, set_word, window_words, vertex_line, arc_line, graph_text, model_text};
 
 use crate::writer::LineWriter;
@@ -192,8 +194,9 @@ fn print_rows(text: &mut LineWriter, rows: &[Row]) -> Result<(), NoMemory>
 }
 
 /// The printed text of a model.
-pub fn printed(alloc: Global, model: &Model) -> Result<LineWriter, NoMemory>
-    ensures { IfOk result (λ text. text ≡ model_text model.now) }
+fn printed(alloc: Global, model: &Model) -> Result<LineWriter, NoMemory>
+    ensures text { IfOk result (λ text. text ≡ model_text model.now) }
+    ensures model { IfOk result (λ _. IsModel model.now) }
 {
     let mut text = LineWriter::new(alloc);
     text.first(b"vrpmodel 1\n")?;
@@ -210,7 +213,8 @@ pub fn printed(alloc: Global, model: &Model) -> Result<LineWriter, NoMemory>
 /// There is one blank between words, no comment, no leading zero, and LF after each line. The line of the sets is left
 /// out where there are none. The time is linear in the text.
 pub fn print_model(alloc: Global, model: &Model) -> Result<List<u8>, NoMemory>
-    ensures { IfOk result (λ bytes. bytes ≡ model_text model.now) }
+    ensures text { IfOk result (λ bytes. bytes ≡ model_text model.now) }
+    ensures spells { IfOk result (λ bytes. Spells bytes model.now) }
 {
     let text = printed(alloc, model)?;
     Ok(text.into_list())

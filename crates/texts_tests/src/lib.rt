@@ -2,6 +2,16 @@
 #![tactic(auto)]
 
 #[cfg(test)]
+mod faults;
+#[cfg(test)]
+mod first_faults;
+#[cfg(test)]
 mod lexing;
 #[cfg(test)]
+mod limits;
+#[cfg(test)]
+mod outcomes;
+#[cfg(test)]
 mod printing;
+#[cfg(test)]
+mod texts;

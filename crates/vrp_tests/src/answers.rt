@@ -1,8 +1,8 @@
 //! What the program answers, row by row. The expected values are worked out by hand.
 
 use crate::running::{Streams, run};
-use crate::texts;
 use std::test::Fail;
+use test_models::texts;
 
 const UNBUILT: &str = "refused model 1 17 Unbuilt\n";
 

@@ -1,12 +1,12 @@
 //! Faults of reading and writing, input that is too long, and runs over files.
 
 use crate::running::{Streams, run, words_of};
-use crate::texts;
 use std::fs;
 use std::fs::File;
 use std::test::Fail;
+use test_models::texts;
 use vrp_cli::run_vrp;
-use vrp_io::{NoGate, StdSink, StdSource, write_all};
+use vrp_io::{Gate, NoGate, StdSink, StdSource, write_all};
 
 #[test]
 fn faults(rt: HostRuntime) -> Result<(), Fail> {
@@ -100,4 +100,14 @@ fn files(rt: HostRuntime) -> Result<(), Fail> {
     let answer = fs::read_to_string(&rt, "answer")?;
     assert_eq!(rt; answer.as_str(), "optimal 9\npath 0 1 0 2 5\n");
     Ok(())
+}
+
+/// Passes a gate, which does nothing here.
+fn pass<G: Gate>(gate: &G) {
+    gate.turn(0, 1);
+}
+
+#[test]
+fn gates(_rt: HostRuntime) {
+    pass(&NoGate);
 }

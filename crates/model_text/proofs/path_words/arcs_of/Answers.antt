@@ -1,8 +1,8 @@
-use Rattle.std.proofs.Common.{◌≡◌, ◌∷◌, sym, ap, drop, ◌∙◌}
+use Rattle.std.proofs.Common.{sym, drop}
 use Rattle.vrp_lex.specs.Text.{words_of}
 use Rattle.model_text.specs.Wanted.{to_the_end}
 use Rattle.model_text.specs.PathFault.{name_wanted, arcs_wanted}
-use Rattle.model_text.proofs.WantedLemmas.{goes_on-more, goes_on-fault, goes_on-end, hands_on}
+use Rattle.model_text.proofs.WantedLemmas.{goes_on-more, goes_on-fault, hands_on}
 use Rattle.model_text.proofs.PathWordLemmas.{behind_first, later_fault}
 use Rattle.model_text.proofs.path_words.arcs_of.Goals as goal
 

@@ -1,48 +1,10 @@
-//! Models that are built from short tables.
+//! Models that are built from tables.
 
-use path_graph::{Ends, Graph, GraphArc, List, NoMemory, Vertex, Window, parts_fit};
+use crate::tables::{ArcTable, GraphTable, ModelTable, RowTable, VertexTable};
+use path_graph::{Graph, GraphArc, List, NoMemory, Vertex, Window, parts_fit};
 use route_model::{Model, Row, RowTerm, Var, model_fits};
 use std::alloc::Global;
 use std::test::Fail;
-
-/// A row: its sides, and variables with their coefficients.
-#[derive(Clone, Copy)]
-pub struct RowTable {
-    pub low: Option<i64>,
-    pub high: Option<i64>,
-    pub terms: &'static [(u32, i64)],
-}
-
-/// A vertex: its packing set, and the windows of the first positions. The others are 0..0.
-#[derive(Clone, Copy)]
-pub struct VertexTable {
-    pub set: Option<u16>,
-    pub windows: &'static [(i32, i32)],
-}
-
-/// An arc: its ends, the needs of the first positions, and its variables. The other needs are 0.
-#[derive(Clone, Copy)]
-pub struct ArcTable {
-    pub ends: (u32, u32),
-    pub needs: &'static [i32],
-    pub vars: &'static [u32],
-}
-
-#[derive(Clone, Copy)]
-pub struct GraphTable {
-    pub ends: Ends,
-    pub vertices: &'static [VertexTable],
-    pub arcs: &'static [ArcTable],
-}
-
-/// A model: variables by low end, high end and cost, rows, the number of packing sets, graphs.
-#[derive(Clone, Copy)]
-pub struct ModelTable {
-    pub vars: &'static [(i64, i64, i64)],
-    pub rows: &'static [RowTable],
-    pub sets: u16,
-    pub graphs: &'static [GraphTable],
-}
 
 /// The model of a table.
 pub fn build(alloc: Global, table: ModelTable) -> Result<Model, Fail> {
@@ -76,11 +38,11 @@ fn vars_of(alloc: Global, table: &[(i64, i64, i64)]) -> Result<List<Var>, NoMemo
 
 fn rows_of(alloc: Global, table: &[RowTable]) -> Result<List<Row>, NoMemory> {
     let mut rows = Vec::new(alloc);
-    for row in table {
-        let terms = terms_of(alloc, row.terms)?;
+    for (low, high, terms) in table {
+        let terms = terms_of(alloc, terms)?;
         rows.push(Row {
-            low: row.low,
-            high: row.high,
+            low: *low,
+            high: *high,
             terms,
         })?;
     }
@@ -108,8 +70,8 @@ fn maps_of(alloc: Global, table: &[GraphTable]) -> Result<List<List<List<u32>>>,
 
 fn graph_maps_of(alloc: Global, table: &[ArcTable]) -> Result<List<List<u32>>, NoMemory> {
     let mut maps = Vec::new(alloc);
-    for arc in table {
-        maps.push(List::from_vec(Vec::from_slice(alloc, arc.vars)?))?;
+    for (_, _, vars) in table {
+        maps.push(List::from_vec(Vec::from_slice(alloc, vars)?))?;
     }
     Ok(List::from_vec(maps))
 }
@@ -133,10 +95,10 @@ fn graph_of(alloc: Global, table: &GraphTable) -> Result<Graph, Fail> {
 
 fn vertices_of(alloc: Global, table: &[VertexTable]) -> Result<Vec<Vertex>, NoMemory> {
     let mut vertices = Vec::new(alloc);
-    for vertex in table {
+    for (set, windows) in table {
         vertices.push(Vertex {
-            set: vertex.set,
-            windows: windows_of(vertex.windows),
+            set: *set,
+            windows: windows_of(windows),
         })?;
     }
     Ok(vertices)
@@ -155,11 +117,11 @@ fn windows_of(table: &[(i32, i32)]) -> [Window; 6] {
 
 fn arcs_of(alloc: Global, table: &[ArcTable]) -> Result<Vec<GraphArc>, NoMemory> {
     let mut arcs = Vec::new(alloc);
-    for arc in table {
+    for ((tail, head), needs, _) in table {
         arcs.push(GraphArc {
-            tail: arc.ends.0,
-            head: arc.ends.1,
-            needs: needs_of(arc.needs),
+            tail: *tail,
+            head: *head,
+            needs: needs_of(needs),
         })?;
     }
     Ok(arcs)

@@ -3,13 +3,13 @@
 ghost use Rattle.std.specs.Prelude.{IfOk, ◌≤◌};
 ghost use Rattle.route_model.specs.Verdicts.{IsCounted};
 
-use crate::building::build;
-use crate::{least, texts};
 use model_text::read_model;
 use path_graph::{List, is_walk};
 use route_model::{Plan, Taken, Verdict, box_costs, judge};
 use std::alloc::{AllocError, Global};
 use std::test::Fail;
+use test_models::building::build;
+use test_models::{tables, texts};
 
 /// The plan of one path.
 fn lone_path(alloc: Global, graph: u32, count: u32, arcs: &[u32]) -> Result<Plan, AllocError>
@@ -137,7 +137,7 @@ fn verdicts_on_built_models(rt: HostRuntime) -> Result<(), Fail> {
     for (name, table, graph, count, arcs, verdict) in [
         (
             "each set visited twice",
-            least::FOUR,
+            tables::FOUR,
             0,
             2,
             [0, 2, 5].as_slice(),
@@ -145,7 +145,7 @@ fn verdicts_on_built_models(rt: HostRuntime) -> Result<(), Fail> {
         ),
         (
             "too many paths of the second graph",
-            least::TWO_GRAPHS,
+            tables::TWO_GRAPHS,
             1,
             2,
             [0].as_slice(),
@@ -153,7 +153,7 @@ fn verdicts_on_built_models(rt: HostRuntime) -> Result<(), Fail> {
         ),
         (
             "one graph alone",
-            least::TWO_GRAPHS,
+            tables::TWO_GRAPHS,
             0,
             1,
             [0].as_slice(),

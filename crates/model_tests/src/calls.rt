@@ -5,7 +5,6 @@ use path_graph::List;
 use route_model::{Plan, Taken};
 use std::alloc::Global;
 use std::test::Fail;
-use vrp_io::{Gate, NoGate};
 
 #[test]
 fn lists(rt: HostRuntime) -> Result<(), Fail> {
@@ -29,7 +28,6 @@ fn plans_and_texts(rt: HostRuntime) -> Result<(), Fail> {
         text.path(taken)?;
     }
     assert_eq!(rt; text.into_list().as_slice(), b"path 0 2 6 3\n".as_slice());
-    pass(&NoGate);
     Ok(())
 }
 
@@ -45,9 +43,4 @@ fn lone_walk(alloc: Global) -> Result<Plan, Fail> {
         arcs,
     })?;
     Ok(Plan { paths })
-}
-
-/// Passes a gate, which does nothing here.
-fn pass<G: Gate>(gate: &G) {
-    gate.turn(0, 1);
 }
