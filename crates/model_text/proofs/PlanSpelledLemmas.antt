@@ -1,5 +1,5 @@
 -- A text that spells a plan is read as that plan.
-use Rattle.std.proofs.Common.{◌≡◌, ℕ, ◌+◌, ◌*◌, ◌≤◌, Bool, true, false, List, [], ◌∷◌, ◌++◌, map, refl, ap, subst, sym, ◌∙◌, arith, append_assoc, append-nil, Result, Ok, Err}
+use Rattle.std.proofs.Common.{◌≡◌, ℕ, ◌+◌, ◌*◌, ◌≤◌, true, false, List, [], ◌∷◌, ◌++◌, map, refl, ap, subst, sym, ◌∙◌, arith, append_assoc, append-nil, Result, Ok, Err}
 use Rattle.std.specs.Prelude.{All, codes, filter}
 use Rattle.std.proofs.lemmas.List.Sums.{sum_by-append}
 use Rattle.std.proofs.lemmas.List.Elements.{All-head, All-tail}
@@ -17,9 +17,9 @@ use Rattle.model_text.specs.Wanted.{Words, are_some_words}
 use Rattle.model_text.specs.FirstFault.{at_line, go_on}
 use Rattle.model_text.specs.Spelling.{in_printed_form}
 use Rattle.model_text.specs.PathText.{path_words, plan_lines, PathFits, SpellsPlan, SpellsNoPlan}
-use Rattle.model_text.specs.PathFault.{empty_plan, plan_words_read, plan_line_read, plan_lines_read, plan_ended, plan_read, IsPathRefusal}
+use Rattle.model_text.specs.PathFault.{empty_plan, plan_words_read, plan_lines_read, plan_ended, plan_read, IsPathRefusal}
 use Rattle.model_text.proofs.LineTakenLemmas.{wordy, AreAccepted, printed_lines}
-use Rattle.model_text.proofs.TakenLemmas.{headed, no_items, by_false}
+use Rattle.model_text.proofs.TakenLemmas.{no_items, by_false}
 use Rattle.model_text.proofs.PathWordLemmas.{paths_of-same}
 use Rattle.model_text.proofs.PathTakenLemmas.{path_line_read, end_line_read}
 
