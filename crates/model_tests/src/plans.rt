@@ -124,6 +124,7 @@ fn verdicts(rt: HostRuntime) -> Result<(), Fail> {
             Verdict::RowBox(1),
         ),
     ] {
+        assert!(rt; text.len() < 1_000);
         let model = read_model(rt.alloc(), text.as_bytes())?;
         assert!(rt; count <= 4_096);
         let plan = lone_path(rt.alloc(), graph, count, arcs)?;
@@ -170,6 +171,7 @@ fn verdicts_on_built_models(rt: HostRuntime) -> Result<(), Fail> {
 
 #[test]
 fn costs_and_walks(rt: HostRuntime) -> Result<(), Fail> {
+    assert!(rt; texts::PAYS.len() < 1_000);
     let model = read_model(rt.alloc(), texts::PAYS.as_bytes())?;
     // Between nine times -1 and once -4, and nothing; one more than that.
     assert_eq!(rt; box_costs(&model), (-13, 1));
