@@ -1,75 +1,46 @@
-//! Rows with an open side, and a variable without arcs, over graphs of one arc.
+//! Rows with an open side, and a variable without arcs.
 
-use crate::expected::{Expected, compare};
-use path_graph::Ends;
+use crate::search::search;
 use std::test::Fail;
-use test_models::tables::{ArcTable, GraphTable, ModelTable, TWO_VERTICES};
 
-/// Up to four paths.
-const ENDS: Ends = Ends {
-    source: 0,
-    sink: 1,
-    low: 0,
-    high: 4,
-    mains: 1,
-    seconds: 0,
-};
+/// The models, each with its least plan.
+const ROWS: &str = "# A variable that no arc maps, whose box doesn't hold 0.
+vrpmodel 1
+var 0 1 5
+var 1 1 2
+graph 2 0 1 0 1 1 0
+vertex - 0 1
+vertex - 0 1
+arc 0 1 1 0
+end
+infeasible
 
-/// One arc, which maps variable 0.
-const ARCS: &[ArcTable] = &[((0, 1), &[1], &[0])];
+# An arc that pays, under a row that is open below.
+vrpmodel 1
+var 0 9 -2
+row * 2 0 1
+graph 2 0 1 0 4 1 0
+vertex - 0 1
+vertex - 0 1
+arc 0 1 1 0
+end
+optimal -4
+path 0 2 0
 
-/// A variable that no arc maps, whose box doesn't hold 0.
-const UNMAPPED: ModelTable = ModelTable {
-    vars: &[(0, 1, 5), (1, 1, 2)],
-    rows: &[],
-    sets: 0,
-    graphs: &[GraphTable {
-        ends: ENDS,
-        vertices: TWO_VERTICES,
-        arcs: ARCS,
-    }],
-};
-
-/// An arc that pays, under a row that is open below.
-const OPEN_BELOW: ModelTable = ModelTable {
-    vars: &[(0, 9, -2)],
-    rows: &[(None, Some(2), &[(0, 1)])],
-    sets: 0,
-    graphs: &[GraphTable {
-        ends: ENDS,
-        vertices: TWO_VERTICES,
-        arcs: ARCS,
-    }],
-};
-
-/// An arc that pays, under a row that is open above.
-const OPEN_ABOVE: ModelTable = ModelTable {
-    vars: &[(0, 9, -2)],
-    rows: &[(Some(-3), None, &[(0, -1)])],
-    sets: 0,
-    graphs: &[GraphTable {
-        ends: ENDS,
-        vertices: TWO_VERTICES,
-        arcs: ARCS,
-    }],
-};
+# An arc that pays, under a row that is open above.
+vrpmodel 1
+var 0 9 -2
+row -3 * 0 -1
+graph 2 0 1 0 4 1 0
+vertex - 0 1
+vertex - 0 1
+arc 0 1 1 0
+end
+optimal -6
+path 0 3 0
+";
 
 #[test]
 fn rows_and_variables(rt: HostRuntime) -> Result<(), Fail> {
-    for (name, table, expected) in [
-        ("a variable without arcs", UNMAPPED, Expected::Nothing),
-        (
-            "a row open below",
-            OPEN_BELOW,
-            Expected::Plan(-4, "path 0 2 0\n"),
-        ),
-        (
-            "a row open above",
-            OPEN_ABOVE,
-            Expected::Plan(-6, "path 0 3 0\n"),
-        ),
-    ] {
-        compare(&rt, rt.alloc(), name, table, expected)?;
-    }
-    Ok(())
+    search(&rt, rt.alloc(), ROWS)
 }

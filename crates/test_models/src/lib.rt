@@ -1,6 +1,5 @@
-//! Models for tests: tables from which a model is built, and texts of models.
+//! Texts of models for tests, and tables that are texts.
 #![tactic(auto)]
 
-pub mod building;
-pub mod tables;
+pub mod blocks;
 pub mod texts;
