@@ -1,5 +1,5 @@
 -- Models and faults of what the lines of a text told.
-use Rattle.std.proofs.Common.{◌≡◌, ℕ, ◌+◌, ◌<◌, ◌≤◌, ◌^◌, List, [], ◌∷◌, ◌++◌, length, map, take, get_or, refl, ap, subst, sym, ◌∙◌, arith, Result, Ok, Err, inl, inr, Bool, true, false}
+use Rattle.std.proofs.Common.{◌≡◌, ℕ, ◌+◌, ◌<◌, ◌≤◌, ◌^◌, List, [], ◌∷◌, ◌++◌, length, map, take, get_or, refl, ap, subst, sym, ◌∙◌, arith, Ok, inl, inr, Bool, true, false}
 use Rattle.std.specs.Prelude.{All, Any, nat_lt}
 use Rattle.std.proofs.lemmas.Bool.Decides.{nat_tests}
 use Rattle.std.proofs.lemmas.List.{take_more, map-append, length-map, get_or-map}
@@ -92,8 +92,7 @@ told_cycle d fault told is some = (
 
 pub told_cost_range : (d : Draft) (fault : TextFault) → IsTold d → fault ≡ record { line = d.end; kind = kinds.CostRange } → All (λ s. HasNoFreeCycle s.arcs) d.done → 2 ^ 40 < cost_range d.vars → IsFaultOf (Ok d) fault
 told_cost_range d fault told is none costs =
-    let parts = sym (told_parts d told) in
-    (
+    let parts = sym (told_parts d told) in (
       ap (λ (f : TextFault). f.line) is,
       inr (ap (λ (f : TextFault). f.kind) is, subst (λ (n : ModelParts). Any HasFreeCycle n.graphs → ⊥) parts (no_cycle_among d.done none), costs),
     )

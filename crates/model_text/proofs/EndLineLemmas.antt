@@ -1,12 +1,12 @@
 -- The place behind the first end line.
-use Rattle.std.proofs.Common.{◌≡◌, ℕ, zero, suc, ◌+◌, ◌-◌, ◌≤◌, ◌<◌, Bool, true, false, List, [], ◌∷◌, length, take, drop, refl, ap, sym, ◌∙◌, arith, min, zero-add}
+use Rattle.std.proofs.Common.{◌≡◌, ℕ, zero, suc, ◌+◌, ◌-◌, ◌≤◌, ◌<◌, Bool, true, false, List, [], ◌∷◌, length, drop, refl, ap, sym, ◌∙◌, arith, min, zero-add}
 use Rattle.std.specs.Prelude.{◌==◌, nat_lt, sum_by, if◌then◌else◌}
 use Rattle.std.specs.List.{onto_first, position_or_len}
 use Rattle.std.proofs.lemmas.List.{length-take, length-drop, drop_all}
 use Rattle.std.proofs.lemmas.List.Sums.{sum_by-cons}
 use Rattle.std.proofs.lemmas.Bool.Decides.{nat_tests}
 use Rattle.vrp_lex.specs.declared.lines.Line.{Line}
-use Rattle.vrp_lex.specs.Text.{lines_of, words_of}
+use Rattle.vrp_lex.specs.Text.{lines_of}
 use Rattle.vrp_lex.specs.Places.{IsLineAt, bytes_of}
 use Rattle.model_text.specs.ModelEnd.{is_end_line, lines_to_end, model_end}
 

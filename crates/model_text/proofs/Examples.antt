@@ -85,7 +85,6 @@ pub two_customers_printed : model_text two_customers ≡ two_customers_text
 unfolding digits
 two_customers_printed = refl
 
-
 -- two graphs of which one has a secondary resource and the other two main ones, two sets, open sides
 abbrev pub two_graphs : ModelParts
 two_graphs =

@@ -1,5 +1,5 @@
 -- A line that is read as a path has the words of that path, which keeps its limits.
-use Rattle.std.proofs.Common.{◌≡◌, ◌≢◌, ℕ, ◌+◌, ◌≤◌, ◌<◌, Bool, true, false, List, [], ◌∷◌, ◌++◌, map, refl, ap, subst, sym, ◌∙◌, arith, append-nil, Result, Ok, Err}
+use Rattle.std.proofs.Common.{◌≡◌, ◌≢◌, ℕ, ◌+◌, ◌≤◌, Bool, true, false, List, [], ◌∷◌, ◌++◌, map, refl, ap, subst, sym, ◌∙◌, arith, append-nil, Ok, Err}
 use Rattle.std.specs.Prelude.{◌⊎◌, All, codes, nat_lt, if◌then◌else◌}
 use Rattle.std.specs.Fmt.{decimal}
 use Rattle.std.specs.Str.{bytes_eq}
@@ -10,13 +10,12 @@ use Rattle.std.proofs.lemmas.List.Elements.{All-nil, All-cons, All-push}
 use Rattle.std.proofs.lemmas.Slice.Eq.{bytes_eq-Decides}
 use Rattle.route_model.specs.declared.plan.Taken.{Taken}
 use Rattle.route_model.specs.Quantities.{paths_of}
-use Rattle.model_text.specs.declared.kind.Kind.{Kind}
 use Rattle.model_text.specs.declared.kind.Kind.TheVariants as fault
 use Rattle.model_text.specs.declared.plan_draft.PlanDraft.{PlanDraft}
-use Rattle.model_text.specs.Wanted.{Words, give, to_the_end}
+use Rattle.model_text.specs.Wanted.{Words, give}
 use Rattle.model_text.specs.FirstFault.{all_taken}
 use Rattle.model_text.specs.Spelling.{in_printed_form}
-use Rattle.model_text.specs.PathText.{path_words, PathFits}
+use Rattle.model_text.specs.PathText.{PathFits}
 use Rattle.model_text.specs.PathFault.{name_wanted, arcs_wanted, path_wanted, with_path, path_or_end}
 use Rattle.model_text.proofs.FitLemmas.{GivesOnly, natural_in-in, to_the_end-keeps}
 use Rattle.model_text.proofs.FitLemmas as fits

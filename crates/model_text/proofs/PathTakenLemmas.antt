@@ -1,5 +1,5 @@
 -- The words of a path are read as that path, and `end` as the end.
-use Rattle.std.proofs.Common.{◌≡◌, ◌≢◌, ℕ, ◌+◌, ◌≤◌, ◌<◌, Bool, true, false, List, [], ◌∷◌, ◌++◌, map, refl, ap, subst, sym, ◌∙◌, arith, Result, Ok, Err}
+use Rattle.std.proofs.Common.{◌≡◌, ◌≢◌, ℕ, ◌+◌, ◌≤◌, true, false, List, [], ◌∷◌, ◌++◌, map, refl, ap, subst, sym, ◌∙◌, arith, Ok}
 use Rattle.std.specs.Prelude.{All, codes, nat_lt}
 use Rattle.std.specs.Fmt.{decimal}
 use Rattle.std.proofs.lemmas.Bool.Decides.{nat_tests}
@@ -14,7 +14,7 @@ use Rattle.model_text.specs.Wanted.{Words, to_the_end}
 use Rattle.model_text.specs.FirstFault.{all_taken}
 use Rattle.model_text.specs.Spelling.{in_printed_form}
 use Rattle.model_text.specs.PathText.{path_words, PathFits}
-use Rattle.model_text.specs.PathFault.{name_wanted, arcs_wanted, path_wanted, with_path, path_or_end, plan_words_read}
+use Rattle.model_text.specs.PathFault.{name_wanted, arcs_wanted, path_wanted, with_path, plan_words_read}
 use Rattle.model_text.proofs.NumberWordLemmas.{plain_is}
 use Rattle.model_text.proofs.RowTakenLemmas.{at_seam}
 use Rattle.model_text.proofs.TakenLemmas.{Takes, given, and_takes, and_none, unless, natural_takes, items_taken, headed, no_items}

@@ -1,24 +1,22 @@
 -- A text that is read as a plan spells it.
-use Rattle.std.proofs.Common.{◌≡◌, ℕ, ◌+◌, ◌≤◌, Bool, true, false, List, [], ◌∷◌, ◌++◌, map, refl, ap, subst, sym, ◌∙◌, arith, append_assoc, append-nil, Result, Ok, Err, inl, inr}
-use Rattle.std.specs.Prelude.{◌==◌, count_by, ◌⊎◌, All, codes, filter, if◌then◌else◌}
-use Rattle.std.specs.Fmt.{decimal}
+use Rattle.std.proofs.Common.{◌≡◌, ℕ, ◌+◌, Bool, true, false, List, [], ◌∷◌, ◌++◌, map, refl, ap, subst, sym, ◌∙◌, arith, append_assoc, append-nil, Result, Ok, Err, inl, inr}
+use Rattle.std.specs.Prelude.{◌==◌, count_by, All, codes, filter, if◌then◌else◌}
 use Rattle.std.proofs.lemmas.List.Elements.{All-nil, All-cons}
 use Rattle.route_model.specs.declared.plan.Taken.{Taken}
 use Rattle.route_model.specs.Tidy.{AreFew}
 use Rattle.vrp_lex.specs.Text.{lines_of, words_of, has_bad_byte}
-use Rattle.model_text.specs.declared.kind.Kind.{Kind}
 use Rattle.model_text.specs.declared.kind.Kind.TheVariants as fault
 use Rattle.model_text.specs.declared.kind.TextFault.{TextFault}
 use Rattle.model_text.specs.declared.plan_draft.PlanDraft.{PlanDraft}
 use Rattle.model_text.specs.Wanted.{Words, are_some_words}
 use Rattle.model_text.specs.FirstFault.{go_on}
 use Rattle.model_text.specs.Spelling.{in_printed_form}
-use Rattle.model_text.specs.PathText.{path_words, plan_lines, PathFits, PlanFits, SpellsPlan}
+use Rattle.model_text.specs.PathText.{path_words, plan_lines, PathFits, SpellsPlan}
 use Rattle.model_text.specs.PathFault.{empty_plan, plan_words_read, plan_line_read, plan_lines_read, plan_ended, plan_read}
 use Rattle.model_text.proofs.LineTakenLemmas.{wordy, AreAccepted, printed_lines}
 use Rattle.model_text.proofs.TextFitLemmas.{else_arm, next_of}
 use Rattle.model_text.proofs.PathWordLemmas.{few_push}
-use Rattle.model_text.proofs.PathSpendLemmas.{TellsPath, IsPathLine, IsEndLine, path_or_end-told}
+use Rattle.model_text.proofs.PathSpendLemmas.{IsPathLine, IsEndLine, path_or_end-told}
 
 abbrev IsGood : List ℕ → Type 0
 IsGood line = has_bad_byte line ≡ false

@@ -1,5 +1,5 @@
 -- A text that spells a plan is read as that plan.
-use Rattle.std.proofs.Common.{◌≡◌, ℕ, ◌+◌, ◌*◌, ◌≤◌, Bool, true, false, List, [], ◌∷◌, ◌++◌, map, refl, ap, subst, sym, ◌∙◌, arith, append_assoc, append-nil, Result, Ok, Err}
+use Rattle.std.proofs.Common.{◌≡◌, ℕ, ◌+◌, ◌*◌, ◌≤◌, true, false, List, [], ◌∷◌, ◌++◌, map, refl, ap, subst, sym, ◌∙◌, arith, append_assoc, append-nil, Result, Ok, Err}
 use Rattle.std.specs.Prelude.{All, codes, filter}
 use Rattle.std.proofs.lemmas.List.Sums.{sum_by-append}
 use Rattle.std.proofs.lemmas.List.Elements.{All-head, All-tail}
@@ -17,9 +17,9 @@ use Rattle.model_text.specs.Wanted.{Words, are_some_words}
 use Rattle.model_text.specs.FirstFault.{at_line, go_on}
 use Rattle.model_text.specs.Spelling.{in_printed_form}
 use Rattle.model_text.specs.PathText.{path_words, plan_lines, PathFits, SpellsPlan, SpellsNoPlan}
-use Rattle.model_text.specs.PathFault.{empty_plan, plan_words_read, plan_line_read, plan_lines_read, plan_ended, plan_read, IsPathRefusal}
+use Rattle.model_text.specs.PathFault.{empty_plan, plan_words_read, plan_lines_read, plan_ended, plan_read, IsPathRefusal}
 use Rattle.model_text.proofs.LineTakenLemmas.{wordy, AreAccepted, printed_lines}
-use Rattle.model_text.proofs.TakenLemmas.{headed, no_items, by_false}
+use Rattle.model_text.proofs.TakenLemmas.{no_items, by_false}
 use Rattle.model_text.proofs.PathWordLemmas.{paths_of-same}
 use Rattle.model_text.proofs.PathTakenLemmas.{path_line_read, end_line_read}
 
@@ -108,8 +108,11 @@ plan_spelled_reads text paths spells =
     ap (λ r. go_on r (plan_ended text)) (lines_read 1 (lines_of text) spells.accepted empty_plan paths refl spells.words spells.fits.each spells.fits.few)
 
 -- a text spells at most one plan, and none where it has a fault
-pub spells_one_plan : (text : List ℕ) (paths read : List Taken) → SpellsPlan text paths → plan_read text ≡ Ok read → paths ≡ read
-spells_one_plan text paths read spells h = let same = sym (plan_spelled_reads text paths spells) ∙ h in cc
+pub spelled_is_read : (text : List ℕ) (paths read : List Taken) → SpellsPlan text paths → plan_read text ≡ Ok read → paths ≡ read
+spelled_is_read text paths read spells h = let same = sym (plan_spelled_reads text paths spells) ∙ h in cc
+
+pub spells_one_plan : (text : List ℕ) (paths others : List Taken) → SpellsPlan text paths → SpellsPlan text others → paths ≡ others
+spells_one_plan text paths others p q = spelled_is_read text paths others p (plan_spelled_reads text others q)
 
 pub fault_spells_no_plan : (text : List ℕ) (fault : TextFault) → plan_read text ≡ Err fault → SpellsNoPlan text
 fault_spells_no_plan text fault h paths spells = let same = sym (plan_spelled_reads text paths spells) ∙ h in cc

@@ -1,5 +1,5 @@
 -- The printed text of a plan spells it.
-use Rattle.std.proofs.Common.{◌≡◌, ℕ, ◌^◌, ◌≤◌, ◌<◌, List, [], ◌∷◌, ◌++◌, map, refl, ap, subst, sym, ◌∙◌, arith}
+use Rattle.std.proofs.Common.{◌≡◌, ℕ, ◌^◌, ◌≤◌, ◌<◌, List, [], ◌∷◌, map, refl, ap, subst, sym, ◌∙◌, arith}
 use Rattle.std.specs.Prelude.{All, codes, false}
 use Rattle.std.specs.Fmt.{decimal}
 use Rattle.std.proofs.lemmas.List.Folds.{flat_map-map}
@@ -10,7 +10,7 @@ use Rattle.model_text.specs.Wanted.{Words}
 use Rattle.model_text.specs.Spelling.{lines_with_words, in_printed_form}
 use Rattle.model_text.specs.PathText.{path_words, plan_lines, plan_text, PathFits, PlanFits, SpellsPlan}
 use Rattle.model_text.proofs.PlainLineLemmas.{IsPlainLine, line_of_words, text_of_lines, text_accepted, lines_with_words-text, text_of-append}
-use Rattle.model_text.proofs.PrintedWordLemmas.{IsPrinted, IsPrintedLine, plain_line, line_begins, lines_stay, two, printed_name, printed_decimal, printed_numbers, printed_end}
+use Rattle.model_text.proofs.PrintedWordLemmas.{IsPrintedLine, plain_line, line_begins, lines_stay, two, printed_name, printed_decimal, printed_numbers, printed_end}
 
 plan_text_is : (paths : List Taken) → text_of_lines (plan_lines paths) ≡ plan_text paths
 plan_text_is paths = text_of-append (map path_words paths) ((codes "end" ∷ []) ∷ []) (flat_map-map line_of_words path_words paths) refl

@@ -13,11 +13,7 @@ use route_model::{BuildFault, Model};
 use std::alloc::Global;
 
 /// Puts the graph that its lines told last.
-fn push_graph(
-    alloc: Global,
-    graphs: &mut List<Graph>,
-    section: &Section,
-) -> Result<(), GraphFault>
+fn push_graph(alloc: Global, graphs: &mut List<Graph>, section: &Section) -> Result<(), GraphFault>
     requires { SectionPartsFit section.now }
     ensures graph { OnOk result (graphs.new ≡ graphs.old ++ graph_of section.now ∷ []) }
     ensures acyclic { OnOk result (HasNoFreeCycle section.now.arcs) }

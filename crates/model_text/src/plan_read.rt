@@ -1,4 +1,4 @@
-ghost use Rattle.std.specs.Prelude.{◌≡◌, ◌==◌, ◌+◌, ◌<◌, ◌≤◌, ◌-◌, ◌^◌, List, OnOk, IfOk, IfErr, length, count_by};
+ghost use Rattle.std.specs.Prelude.{◌≡◌, ◌==◌, ◌+◌, ◌<◌, ◌≤◌, ◌-◌, ◌^◌, List, OnOk, IfOk, IfErr, length};
 ghost use Rattle.route_model.specs.declared.plan.Taken.{Taken};
 ghost use Rattle.vrp_lex.specs.Text.{lines_of};
 ghost use Rattle.vrp_lex.specs.Places.{IsInText, bytes_of};
@@ -12,18 +12,12 @@ use crate::kind::{Kind, ReadError, TextFault};
 use crate::path_lines::take_line;
 use crate::plan_draft::PlanDraft;
 use crate::wanted::LineFault;
+use crate::whole::lf_count;
 use path_graph::List;
 use route_model::{Plan, Taken};
 use std::alloc::Global;
 use std::collections::BTreeMap;
 use vrp_lex::{Line, next_line};
-
-/// How many LF bytes a text has.
-fn lf_count(text: &[u8]) -> usize
-    ensures { result ≡ count_by (λ b. b == 10) text.now }
-{
-    text.iter().filter(|byte| **byte == b'\n').count()
-}
 
 /// A line of a path text; a fault has its number.
 fn take_numbered(

@@ -14,7 +14,7 @@ use std::alloc::Global;
 use vrp_lex::{Line, next_line};
 
 /// How many LF bytes a text has.
-fn lf_count(text: &[u8]) -> usize
+pub fn lf_count(text: &[u8]) -> usize
     ensures { result ≡ count_by (λ b. b == 10) text.now }
 {
     text.iter().filter(|byte| **byte == b'\n').count()
