@@ -62,8 +62,8 @@ model_of {words} {a} {b} {f} {g} {w} {v} run e = of_status ((command : Command) 
     from status text (model_refused command fault taken whole) is wrote = (command, taken, on_input (λ input. WroteFault w v (model_part command input)) whole (λ input few p. (fault, p, wrote)))
     from _ _ _ is wrote = absurd (omega (arith, is))
 
-pub plan_of : {words : List (List ℕ)} {a b : Option (List ℕ)} {f g : ℕ} {w v : Option (List ℕ)} {h k end : ℕ} → Runs words a b f g w v h k end → end ≡ 4 → Takes words Eval × IfSome a (WrotePlanFault w v)
-plan_of {words} {a} {b} {f} {g} {w} {v} run e = of_status (Takes words Eval × IfSome a (WrotePlanFault w v)) 4 (omega arith) run e from
+pub refused_of : {words : List (List ℕ)} {a b : Option (List ℕ)} {f g : ℕ} {w v : Option (List ℕ)} {h k end : ℕ} → Runs words a b f g w v h k end → end ≡ 4 → Takes words Eval × IfSome a (WrotePlanFault w v)
+refused_of {words} {a} {b} {f} {g} {w} {v} run e = of_status (Takes words Eval × IfSome a (WrotePlanFault w v)) 4 (omega arith) run e from
   where
     from : (status : ℕ) (text : List ℕ) → Answers words a b f g status text → status ≡ 4 → Appends w v text → Takes words Eval × IfSome a (WrotePlanFault w v)
     from status text (paths_refused fault taken whole) is wrote = (taken, on_input (WrotePlanFault w v) whole (λ input few p. inl (fault, p, wrote)))
@@ -91,8 +91,8 @@ long_of {words} {a} {b} {f} {g} run e = of_run (TookExactly a b (input_limit + 1
     from status text (too_long taken took kept) is = took
     from _ _ _ is = absurd (omega (arith, is))
 
-pub refused_of : {words : List (List ℕ)} {a b : Option (List ℕ)} {f g : ℕ} {w v : Option (List ℕ)} {h k end : ℕ} → Runs words a b f g w v h k end → (AreTaken words → ⊥) → (end ≡ 2) ⊎ (end ≡ 8)
-refused_of {words} {a} {b} {f} {g} {w} {v} {h} {k} {end} run not_taken =
+pub unread_of : {words : List (List ℕ)} {a b : Option (List ℕ)} {f g : ℕ} {w v : Option (List ℕ)} {h k end : ℕ} → Runs words a b f g w v h k end → (AreTaken words → ⊥) → (end ≡ 2) ⊎ (end ≡ 8)
+unread_of {words} {a} {b} {f} {g} {w} {v} {h} {k} {end} run not_taken =
     of_run ((end ≡ 2) ⊎ (end ≡ 8)) run (λ status text answers is wrote. from status text answers is) (λ is rose. inr is)
   where
     of_command : (command : Command) → Takes words command → (end ≡ 2) ⊎ (end ≡ 8)

@@ -10,7 +10,7 @@ use Rattle.model_text.specs.declared.kind.TextFault.{TextFault}
 use Rattle.model_text.specs.Spelling.{Spells}
 use Rattle.model_text.specs.Refusal.{IsRefusedFor}
 use Rattle.model_text.proofs.SpellsLawLemmas.{spells_one}
-use Rattle.model_text.proofs.PlanLawLemmas.{plan_spelled_once}
+use Rattle.model_text.proofs.PlanSpelledLemmas.{spells_one_plan}
 use Rattle.vrp_cli.specs.declared.command.Command.{Command}
 use Rattle.vrp_cli.specs.declared.command.Command.TheVariants.{Solve, Print, Eval}
 use Rattle.vrp_cli.specs.Commands.{Takes, model_part, path_part}
@@ -51,7 +51,7 @@ fine_due : (end : ℕ) (cost : ℤ) (input : List ℕ) → end ≡ 0 → length 
 fine_due end cost input is few p =
     spelled_due Eval end input p.model few p.spelled (
       λ none. absurd (none p.plan p.planned),
-      λ plan planned unsolved. absurd (unsolved (subst (λ (paths : List Taken). IsSolution p.model paths) (plan_spelled_once (path_part input) p.plan plan p.planned planned) p.solves)),
+      λ plan planned unsolved. absurd (unsolved (subst (λ (paths : List Taken). IsSolution p.model paths) (spells_one_plan (path_part input) p.plan plan p.planned planned) p.solves)),
       λ plan planned solves. is,
     )
 
@@ -68,7 +68,7 @@ plan_due end verdict input is few p =
     spelled_due Eval end input p.model few p.spelled (
       λ none. is,
       λ plan planned unsolved. is,
-      λ plan planned solves. absurd (p.unsolved (subst (λ (paths : List Taken). IsSolution p.model paths) (plan_spelled_once (path_part input) plan p.plan planned p.planned) solves)),
+      λ plan planned solves. absurd (p.unsolved (subst (λ (paths : List Taken). IsSolution p.model paths) (spells_one_plan (path_part input) plan p.plan planned p.planned) solves)),
     )
 
 refused_due : (command : Command) (end : ℕ) (fault : TextFault) (input : List ℕ) → end ≡ 3 → length input ≤ input_limit → IsRefusedFor fault (model_part command input) → IsDue command end input

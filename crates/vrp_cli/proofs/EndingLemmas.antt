@@ -7,6 +7,7 @@ use Rattle.vrp_io.specs.Bytes.{TookAll}
 use Rattle.route_model.specs.declared.plan.Taken.{Taken}
 use Rattle.route_model.specs.Parts.{ModelParts}
 use Rattle.route_model.specs.Quantities.{cost_of}
+use Rattle.model_text.specs.declared.kind.TextFault.{TextFault}
 use Rattle.model_text.specs.ModelEnd.{model_end}
 use Rattle.model_text.specs.Spelling.{Spells}
 use Rattle.model_text.specs.Refusal.{IsRefusedFor}
@@ -15,7 +16,7 @@ use Rattle.vrp_cli.specs.declared.answer.Answer.TheVariants.{Optimal, Infeasible
 use Rattle.vrp_cli.specs.declared.command.Command.{Command}
 use Rattle.vrp_cli.specs.declared.command.Command.TheVariants.{Solve, Print, Eval}
 use Rattle.vrp_cli.specs.Commands.{Takes, model_part, path_part}
-use Rattle.vrp_cli.specs.Texts.{optimal_text}
+use Rattle.vrp_cli.specs.Texts.{optimal_text, refused_model_text}
 use Rattle.vrp_cli.specs.Headline.{IsLeastPlan, input_limit, TellsLeast, SpellsInfeasible, TellsModel, SpellsSolution, ArePathsRefusedFor, IsPlanRefusedFor, ReadWhole, Answers, optimal, infeasible, printed, fine, model_refused, paths_refused, plan_refused}
 use Rattle.vrp_cli.specs.Answer.{status_of, text_of, RefusesModel, AnswersPaths, AnswersInput}
 
@@ -30,6 +31,11 @@ tells_least input text m plan cost spelled best told =
       tidy = best.tidy;
       told = told ∙ ap (λ (z : ℤ). optimal_text z plan) best.costs;
     }
+
+-- `eval` refuses the text up to the end of its model text
+pub refused_there : (input : List ℕ) (end : ℕ) (fault : TextFault) (text : List ℕ) → end ≡ model_end input → IsRefusedFor fault (take end input) → text ≡ refused_model_text fault → RefusesModel Eval input text
+refused_there input end fault text is refused told =
+    (fault, subst (λ (n : ℕ). IsRefusedFor fault (take n input)) is refused, told)
 
 -- what `eval` answers to the path text behind a model, it answers to the input
 pub behind_model : {E : Type 0} (input : List ℕ) (end : ℕ) (m : ModelParts) (r : Result Answer E) → end ≡ model_end input → Spells (take end input) m → IfOk r (AnswersPaths m (take (length input - end) (drop end input))) → IfOk r (AnswersInput Eval input)

@@ -1,4 +1,4 @@
-use Rattle.model_text.proofs.PlanLawLemmas.{spelled_counted}
+use Rattle.model_text.proofs.PlanCountLemmas.{spelled_counted}
 use Rattle.vrp_cli.proofs.eval.eval_paths.Goals as goal
 
 pub eval_plan-requires : goal.eval_plan-requires

@@ -1,4 +1,4 @@
-use Rattle.vrp_cli.proofs.ClauseLemmas.{optimal_of, print_of, fine_of, infeasible_of, words_of, model_of, plan_of, read_of, write_of, long_of, refused_of}
+use Rattle.vrp_cli.proofs.ClauseLemmas.{optimal_of, print_of, fine_of, infeasible_of, words_of, model_of, refused_of, read_of, write_of, long_of, unread_of}
 use Rattle.vrp_cli.proofs.DueLemmas.{due_of}
 use Rattle.vrp_cli.proofs.run.run_vrp.Goals as goal
 
@@ -21,7 +21,7 @@ pub returns-clause-model : goal.returns-clause-model
 returns-clause-model g c = model_of c.answer_words.ensures.run
 
 pub returns-clause-refused : goal.returns-clause-refused
-returns-clause-refused g c = plan_of c.answer_words.ensures.run
+returns-clause-refused g c = refused_of c.answer_words.ensures.run
 
 pub returns-clause-read : goal.returns-clause-read
 returns-clause-read g c = read_of c.answer_words.ensures.run
@@ -36,4 +36,4 @@ pub returns-clause-due : goal.returns-clause-due
 returns-clause-due g c = due_of c.answer_words.ensures.run
 
 pub returns-clause-unread : goal.returns-clause-unread
-returns-clause-unread g c not_taken = (c.answer_words.ensures.unread not_taken, refused_of c.answer_words.ensures.run not_taken)
+returns-clause-unread g c not_taken = (c.answer_words.ensures.unread not_taken, unread_of c.answer_words.ensures.run not_taken)
