@@ -7,6 +7,7 @@ use Rattle.rank1_cuts.specs.declared.cut.CutSet.{CutSet}
 use Rattle.rank1_cuts.specs.declared.cut.CutFault.TheVariants.{Denominator, Empty, Repeated, Numerator}
 use Rattle.rank1_cuts.specs.Fit.{IsRepeated, HasNumerator, IsFault, right_side_of}
 use Rattle.rank1_cuts.specs.Visits.{rises, state_after, state_from, coef_of}
+use Rattle.rank1_cuts.specs.Solutions.{TakenWalk, visits_in, coef_in, coef_joined}
 
 abbrev item : ℕ → ℕ → CutSet
 item set num = record { set = set; num = num }
@@ -89,6 +90,32 @@ twice = refl
 
 no_visits : coef_of full [] ≡ 0
 no_visits = refl
+
+-- a walk over 0 and 1, taken twice, and one over 2 and 5, taken three times
+abbrev plan : List TakenWalk
+plan = (2, over (0 ∷ 1 ∷ [])) ∷ (3, over (2 ∷ 5 ∷ [])) ∷ []
+
+thrice : visits_in plan 5 ≡ 3
+thrice = refl
+
+two_of_plan : coef_in full plan ≡ 2
+unfolding has_set
+two_of_plan = refl
+
+-- 1 and 1 make up the denominator where the visits 0 and 1 are joined
+made_up : coef_joined full (over (0 ∷ [])) (over (1 ∷ [])) ≡ 1
+unfolding has_set
+made_up = refl
+
+-- 2 and 1 do so backward already, and the state 1 after the visit 0 is left over
+already : coef_joined full (over (0 ∷ [])) (over (2 ∷ 1 ∷ [])) ≡ 1
+unfolding has_set
+already = refl
+
+-- where visit 1 is forgotten, 2 and 1 leave 0, and nothing is made up
+forgotten_join : coef_joined limited (over (0 ∷ [])) (over (2 ∷ 1 ∷ [])) ≡ 0
+unfolding has_set
+forgotten_join = refl
 
 half_of_three : right_side_of full ≡ 1
 half_of_three = refl

@@ -1,3 +1,5 @@
 pub mod Examples
 pub mod FitLemmas
+pub mod JoinLemmas
+pub mod SolutionLemmas
 pub mod VisitsLemmas

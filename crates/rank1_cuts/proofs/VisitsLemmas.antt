@@ -30,7 +30,7 @@ pub rises_from-more : (cut : Cut) (state : ℕ) (xs : List (Option ℕ)) (visit 
 rises_from-more cut state xs visit = rises_from-append cut state xs (visit ∷ []) ∙ omega arith
 
 -- a numerator is below the denominator
-numerator_of-below : (den : ℕ) (sets : List CutSet) (s : ℕ) → 0 < den → ((k : ℕ) → k < length sets → (item_at sets k).num < den) → numerator_of sets s < den
+pub numerator_of-below : (den : ℕ) (sets : List CutSet) (s : ℕ) → 0 < den → ((k : ℕ) → k < length sets → (item_at sets k).num < den) → numerator_of sets s < den
 numerator_of-below den [] s some each = some
 numerator_of-below den (item ∷ rest) s some each =
     cond_both (item.set == s) item.num (numerator_of rest s) (λ (n : ℕ). n < den)
