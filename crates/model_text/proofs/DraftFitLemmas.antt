@@ -1,6 +1,6 @@
 -- The lines of a text tell parts that keep the limits and orders of a model.
-use Rattle.std.proofs.Common.{◌≡◌, ◌≢◌, ℕ, zero, suc, ◌+◌, ◌-◌, ◌≤◌, ◌<◌, Bool, true, false, not, List, [], ◌∷◌, ◌++◌, length, get_or, map, refl, ap, subst, sym, ◌∙◌, arith, Option, None, Some, Result, Ok, Err}
-use Rattle.std.specs.Prelude.{◌==◌, ◌||◌, nat_lt, All, sum_by, if◌then◌else◌}
+use Rattle.std.proofs.Common.{◌≡◌, ℕ, zero, suc, ◌+◌, ◌-◌, ◌≤◌, ◌<◌, Bool, true, false, List, [], ◌∷◌, ◌++◌, length, get_or, refl, ap, sym, ◌∙◌, arith, None}
+use Rattle.std.specs.Prelude.{◌==◌, All, if◌then◌else◌}
 use Rattle.std.proofs.lemmas.Bool.Decides.{nat_tests}
 use Rattle.std.proofs.lemmas.List.{length-append, get_or_append_left}
 use Rattle.std.proofs.Math.Seq.{get_or-append_seam}
@@ -10,20 +10,17 @@ use Rattle.path_graph.specs.declared.parts.Vertex.{Vertex}
 use Rattle.path_graph.specs.declared.parts.GraphArc.{GraphArc}
 use Rattle.path_graph.specs.declared.parts.Ends.{Ends}
 use Rattle.route_model.specs.declared.parts.Row.{Row}
-use Rattle.path_graph.specs.Fit.{VertexFits, ArcFits, EndsFit, PartsFit, vertex_at}
+use Rattle.path_graph.specs.Fit.{VertexFits, ArcFits, EndsFit, vertex_at}
 use Rattle.path_graph.specs.Free.{HasNoFreeCycle}
-use Rattle.route_model.specs.Fit.{VarFits, VarsFit, TermFits, RowsFit, RowFits, GraphFits, GraphMapsFit, MapFits, IsDeclared, row_coef, total_coef}
+use Rattle.route_model.specs.Fit.{VarsFit, TermFits, RowsFit, RowFits, GraphFits, GraphMapsFit, MapFits, IsDeclared, row_coef, total_coef}
 use Rattle.model_text.specs.declared.draft.Stage.{Stage}
 use Rattle.model_text.specs.declared.draft.Stage.TheVariants.{Opening, Variables, Rows, Sets, Vertices, Arcs, Ended}
 use Rattle.model_text.specs.declared.draft.Section.{Section}
 use Rattle.model_text.specs.declared.draft.Draft.{Draft}
-use Rattle.model_text.specs.declared.line_kind.LineKind.TheVariants as line
-use Rattle.model_text.specs.Draft.{begun_section, with_vertex, with_arc, stage_in, in_section, sections_of, graph_of, SectionPartsFit}
-use Rattle.model_text.specs.LineKinds.{passes_limit, further_wanted}
+use Rattle.model_text.specs.Draft.{begun_section, with_vertex, with_arc, in_section, sections_of, graph_of, SectionPartsFit}
 use Rattle.model_text.specs.Totals.{term_total, path_total, arc_total}
-use Rattle.model_text.proofs.FitLemmas.{GivesOnly, given, after, var_wanted-fits}
-use Rattle.model_text.proofs.RowFitLemmas.{TermsFit, row_wanted-fits, ascends_nil}
-use Rattle.model_text.proofs.GraphFitLemmas.{IsFree, GraphLineFits, vertex_wanted-fits, arc_wanted-fits, graph_wanted-fits, sets_wanted-few}
+use Rattle.model_text.proofs.RowFitLemmas.{TermsFit, ascends_nil}
+use Rattle.model_text.proofs.GraphFitLemmas.{IsFree}
 
 -- a graph of which vertices may be to come
 pub record BegunFits (vars sets : ℕ) (s : Section) : Type 0 where

@@ -1,20 +1,18 @@
 -- What the words of a line tell keeps the limits of a model.
-use Rattle.std.proofs.Common.{◌≡◌, ◌≢◌, ℕ, zero, suc, ◌+◌, ◌-◌, ◌≤◌, ◌<◌, ℤ, pos, negsuc, neg_ℤ, unsigned_abs, ◌≤ℤ◌, Bool, true, false, not, List, [], ◌∷◌, ◌++◌, length, get_or, refl, ap, subst, sym, ◌∙◌, arith, Option, None, Some, Result, Ok, Err, inl, inr}
-use Rattle.std.specs.Prelude.{◌==◌, ◌||◌, ◌&&◌, ◌⊎◌, int_lt, nat_lt, IfSome, codes, if◌then◌else◌}
+use Rattle.std.proofs.Common.{◌≡◌, ℕ, zero, suc, ◌≤◌, ◌<◌, ℤ, pos, negsuc, neg_ℤ, unsigned_abs, ◌≤ℤ◌, Bool, true, false, not, List, [], ◌∷◌, ◌++◌, length, get_or, refl, subst, arith, Option, None, Some, Result, Ok, Err}
+use Rattle.std.specs.Prelude.{◌||◌, ◌&&◌, int_lt, nat_lt, IfSome, codes, if◌then◌else◌}
 use Rattle.std.specs.Str.{bytes_eq}
 use Rattle.std.proofs.lemmas.Bool.Decides.{nat_tests}
-use Rattle.vrp_lex.specs.Text.{number_of}
 use Rattle.path_graph.specs.declared.parts.Window.{Window}
 use Rattle.path_graph.specs.declared.parts.Ends.{Ends}
 use Rattle.path_graph.specs.Within.{IsWithin}
 use Rattle.path_graph.specs.Fit.{is_used_at, WindowFits, NeedFits}
 use Rattle.path_graph.specs.Walk.{positions}
-use Rattle.route_model.specs.declared.parts.Var.{Var}
 use Rattle.route_model.specs.Fit.{VarFits, SidesFit}
 use Rattle.model_text.specs.declared.kind.Kind.{Kind}
 use Rattle.model_text.specs.declared.kind.Kind.TheVariants as fault
 use Rattle.model_text.specs.Wanted.{Words, Wants, ◌>>=◌, ◌>>◌, and_then, give, fault_if, word, number_of_word, limited_word, number_in, natural_in, known_word, known_below, for_each, at_most, to_the_end}
-use Rattle.model_text.specs.LineWords.{var_wanted, side_wanted, are_reversed, sets_wanted, set_wanted, window_wanted, window_at, need_wanted, need_at}
+use Rattle.model_text.specs.LineWords.{var_wanted, side_wanted, are_reversed, window_wanted, window_at, need_wanted, need_at}
 
 -- what is given where no fault comes
 pub record GivesOnly {A : Type 0} (wanted : Wants A) (P : A → Type 0) : Type 0 where

@@ -1,9 +1,8 @@
 -- What the words of graphs, vertices and arcs tell keeps the limits of a model.
-use Rattle.std.proofs.Common.{◌≡◌, ◌≢◌, ℕ, ◌+◌, ◌≤◌, ◌<◌, ℤ, pos, Bool, true, false, not, List, [], ◌∷◌, length, refl, ap, sym, ◌∙◌, arith, Option, None, Some, Result, Ok, Err}
+use Rattle.std.proofs.Common.{◌≡◌, ◌≢◌, ℕ, ◌+◌, ◌≤◌, ◌<◌, pos, Bool, true, false, List, length, refl, arith, Option, None, Some}
 use Rattle.std.specs.Prelude.{◌==◌, ◌||◌, ◌&&◌, nat_lt, IfSome, is_some, codes}
 use Rattle.std.specs.Str.{bytes_eq}
 use Rattle.std.proofs.lemmas.Bool.Decides.{nat_tests}
-use Rattle.path_graph.specs.declared.parts.Window.{Window}
 use Rattle.path_graph.specs.declared.parts.Vertex.{Vertex}
 use Rattle.path_graph.specs.declared.parts.GraphArc.{GraphArc}
 use Rattle.path_graph.specs.declared.parts.Ends.{Ends}
@@ -12,8 +11,8 @@ use Rattle.path_graph.specs.Walk.{positions}
 use Rattle.route_model.specs.Fit.{MapFits, IsDeclared}
 use Rattle.model_text.specs.declared.kind.Kind.TheVariants as fault
 use Rattle.model_text.specs.declared.draft.Section.{Section}
-use Rattle.model_text.specs.Wanted.{word, to_the_end}
-use Rattle.model_text.specs.LineWords.{set_wanted, window_at, need_at, vertex_wanted, mapped_wanted, arc_wanted, graph_wanted, sets_wanted}
+use Rattle.model_text.specs.Wanted.{word}
+use Rattle.model_text.specs.LineWords.{set_wanted, window_at, need_at, vertex_wanted, arc_wanted, graph_wanted, sets_wanted}
 use Rattle.model_text.specs.Totals.{path_total}
 use Rattle.model_text.proofs.FitLemmas.{GivesOnly, given, after, checked, anything, either, natural_in-in, known_below-below, known_word-below, for_each-all, six, window_at-fits, need_at-fits}
 use Rattle.model_text.proofs.RowFitLemmas.{mapped_to_the_end-fits}

@@ -40,3 +40,4 @@ pub mod PlanReadsLemmas
 pub mod PlanSpelledLemmas
 pub mod PlanTextLemmas
 pub mod PathExamples
+pub mod PlanCountLemmas

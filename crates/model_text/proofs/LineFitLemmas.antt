@@ -1,27 +1,25 @@
 -- Each line keeps the limits and orders of a model.
-use Rattle.std.proofs.Common.{◌≡◌, ℕ, ◌+◌, ◌≤◌, ◌<◌, Bool, true, false, not, List, [], ◌∷◌, ◌++◌, length, refl, ap, sym, ◌∙◌, arith, Option, None, Some, Result, Ok, Err, map}
-use Rattle.std.specs.Prelude.{◌==◌, ◌||◌, nat_lt, All}
+use Rattle.std.proofs.Common.{◌≡◌, ℕ, ◌+◌, ◌<◌, true, false, not, List, [], ◌∷◌, ◌++◌, length, refl, arith}
+use Rattle.std.specs.Prelude.{nat_lt, All}
 use Rattle.std.proofs.lemmas.Bool.Decides.{nat_tests}
 use Rattle.std.proofs.lemmas.List.{length-append}
-use Rattle.std.proofs.lemmas.List.Elements.{All-push, All-nil}
+use Rattle.std.proofs.lemmas.List.Elements.{All-push}
 use Rattle.std.proofs.lemmas.List.Sums.{sum_by_push}
 use Rattle.route_model.specs.declared.parts.Var.{Var}
 use Rattle.route_model.specs.Fit.{VarFits, VarsFit}
-use Rattle.model_text.specs.declared.kind.Kind.{Kind}
-use Rattle.model_text.specs.declared.kind.TextFault.{TextFault}
 use Rattle.model_text.specs.declared.draft.Stage.{Stage}
-use Rattle.model_text.specs.declared.draft.Stage.TheVariants.{Opening, Variables, Rows, Sets, Vertices, Arcs, Ended}
+use Rattle.model_text.specs.declared.draft.Stage.TheVariants.{Variables, Rows, Sets, Vertices, Arcs}
 use Rattle.model_text.specs.declared.draft.Section.{Section}
 use Rattle.model_text.specs.declared.draft.Draft.{Draft}
 use Rattle.model_text.specs.declared.line_kind.LineKind.{LineKind}
 use Rattle.model_text.specs.declared.line_kind.LineKind.TheVariants as line
-use Rattle.model_text.specs.Draft.{begun_section, with_vertex, with_arc, in_section, sections_of, empty_draft}
+use Rattle.model_text.specs.Draft.{begun_section, with_vertex, with_arc, in_section, sections_of}
 use Rattle.model_text.specs.LineKinds.{may_stand, passes_limit, further_wanted}
-use Rattle.model_text.specs.Totals.{path_total, arc_total}
+use Rattle.model_text.specs.Totals.{arc_total}
 use Rattle.model_text.proofs.FitLemmas.{GivesOnly, given, after, var_wanted-fits, or_false}
 use Rattle.model_text.proofs.RowFitLemmas.{row_wanted-fits}
 use Rattle.model_text.proofs.GraphFitLemmas.{vertex_wanted-fits, arc_wanted-fits, graph_wanted-fits, sets_wanted-few}
-use Rattle.model_text.proofs.DraftFitLemmas.{SectionFits, SectionsFit, DraftFits, with_vertex-fits, with_arc-fits, begun_section-fits, more_sections, changed_section, in_section-fits, no_rows-fit, no_sections-fit, terms_begin, more_rows}
+use Rattle.model_text.proofs.DraftFitLemmas.{SectionFits, DraftFits, with_vertex-fits, with_arc-fits, begun_section-fits, more_sections, changed_section, in_section-fits, no_rows-fit, no_sections-fit, terms_begin, more_rows}
 
 -- a draft at a stage
 abbrev pub at : Stage → Draft → Draft

@@ -1,5 +1,5 @@
 -- Words that are numbers, and words that are not, in printed form.
-use Rattle.std.proofs.Common.{◌≡◌, ℕ, zero, suc, ◌+◌, ◌-◌, ◌*◌, ◌%◌, ◌/◌, ◌^◌, ◌<◌, ◌≤◌, ℤ, pos, negsuc, neg_ℤ, unsigned_abs, Bool, true, false, nat_le, nat_lt, ◌&&◌, List, [], ◌∷◌, fold, Option, None, Some, refl, ap, sym, ◌∙◌, arith, length, if◌then◌else◌}
+use Rattle.std.proofs.Common.{◌≡◌, ℕ, zero, suc, ◌+◌, ◌*◌, ◌%◌, ◌/◌, ◌^◌, ◌<◌, ◌≤◌, ℤ, pos, negsuc, unsigned_abs, Bool, true, false, nat_le, nat_lt, List, [], ◌∷◌, Option, None, Some, refl, ap, sym, ◌∙◌, arith, length, if◌then◌else◌}
 use Rattle.std.specs.Prelude.{◌==◌}
 use native.Mathlib.Numerals.{unary_clauses}
 use Rattle.std.specs.List.{list_all}
@@ -8,7 +8,7 @@ use Rattle.std.specs.Option.{option_map_or}
 use Rattle.std.specs.Fmt.{decimal, signed_decimal, digits, digits_onto, digit_glyph}
 use Rattle.std.proofs.lemmas.Bool.Decides.{nat_tests}
 use Rattle.std.proofs.lemmas.Fmt.{decimal_injective, length-decimal-le}
-use Rattle.vrp_lex.specs.Text.{is_digit, are_digits, is_some_bytes, digits_value, number_of}
+use Rattle.vrp_lex.specs.Text.{is_digit, is_some_bytes, digits_value, number_of}
 use Rattle.model_text.specs.Spelling.{in_printed_form}
 use Rattle.model_text.proofs.PrintedWordLemmas.{number_of-digits, number_of-signed}
 

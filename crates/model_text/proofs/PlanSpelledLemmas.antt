@@ -108,8 +108,11 @@ plan_spelled_reads text paths spells =
     ap (λ r. go_on r (plan_ended text)) (lines_read 1 (lines_of text) spells.accepted empty_plan paths refl spells.words spells.fits.each spells.fits.few)
 
 -- a text spells at most one plan, and none where it has a fault
-pub spells_one_plan : (text : List ℕ) (paths read : List Taken) → SpellsPlan text paths → plan_read text ≡ Ok read → paths ≡ read
-spells_one_plan text paths read spells h = let same = sym (plan_spelled_reads text paths spells) ∙ h in cc
+pub spelled_is_read : (text : List ℕ) (paths read : List Taken) → SpellsPlan text paths → plan_read text ≡ Ok read → paths ≡ read
+spelled_is_read text paths read spells h = let same = sym (plan_spelled_reads text paths spells) ∙ h in cc
+
+pub spells_one_plan : (text : List ℕ) (paths others : List Taken) → SpellsPlan text paths → SpellsPlan text others → paths ≡ others
+spells_one_plan text paths others p q = spelled_is_read text paths others p (plan_spelled_reads text others q)
 
 pub fault_spells_no_plan : (text : List ℕ) (fault : TextFault) → plan_read text ≡ Err fault → SpellsNoPlan text
 fault_spells_no_plan text fault h paths spells = let same = sym (plan_spelled_reads text paths spells) ∙ h in cc

@@ -1,5 +1,5 @@
 -- What a reader returns says which model a text spells, or why it spells none.
-use Rattle.std.proofs.Common.{◌≡◌, ℕ, List, subst, sym, ◌∙◌, ap, Result, Ok, Err, IfOk, IfErr, refl}
+use Rattle.std.proofs.Common.{◌≡◌, ℕ, List, subst, sym, Result, Ok, Err, IfOk, IfErr, refl}
 use Rattle.route_model.specs.Parts.{ModelParts}
 use Rattle.model_text.specs.declared.kind.TextFault.{TextFault}
 use Rattle.model_text.specs.declared.kind.ReadError.{ReadError}

@@ -9,7 +9,7 @@ use Rattle.model_text.specs.declared.kind.TextFault.{TextFault}
 use Rattle.model_text.specs.declared.draft.Draft.{Draft}
 use Rattle.model_text.specs.Draft.{parts_of}
 use Rattle.model_text.specs.FreeCycles.{HasFreeCycle}
-use Rattle.model_text.specs.FirstFault.{text_read, IsModelOf, IsFaultOf, IsFirstTextFault, ReadsAs}
+use Rattle.model_text.specs.FirstFault.{text_read, IsModelOf, IsFaultOf, IsFirstTextFault}
 use Rattle.model_text.specs.Spelling.{Spells, SpellsNothing}
 use Rattle.model_text.proofs.BuildLemmas.{not_above}
 use Rattle.model_text.proofs.ReadsSpelledLemmas.{reads_spelled}

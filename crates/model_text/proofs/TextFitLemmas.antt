@@ -1,13 +1,13 @@
 -- What is read of a text keeps the limits and orders of a model.
-use Rattle.std.proofs.Common.{◌≡◌, ℕ, ◌+◌, ◌≤◌, ◌<◌, ◌^◌, Bool, true, false, List, [], ◌∷◌, ◌++◌, length, get_or, map, fold, refl, ap, subst, sym, ◌∙◌, arith, Option, None, Some, Result, Ok, Err}
-use Rattle.std.specs.Prelude.{◌==◌, All, Any, sum_by, count_by, if◌then◌else◌}
+use Rattle.std.proofs.Common.{◌≡◌, ℕ, ◌+◌, ◌<◌, Bool, true, false, List, [], ◌∷◌, length, get_or, map, fold, refl, ap, subst, sym, ◌∙◌, arith, Option, None, Some, Result, Ok, Err}
+use Rattle.std.specs.Prelude.{◌==◌, Any, sum_by, count_by, if◌then◌else◌}
 use Rattle.std.proofs.lemmas.List.{length-map, get_or-map}
 use Rattle.std.proofs.lemmas.List.Elements.{All-nil, All-map}
 use Rattle.std.specs.Cmp.Lexicographic.{pointwise}
 use Rattle.std.specs.Str.{bytes_eq}
 use Rattle.path_graph.specs.Walk.{GraphParts}
-use Rattle.route_model.specs.Parts.{ModelParts, graph_in, maps_in}
-use Rattle.route_model.specs.Fit.{VarFits, ModelFits, IsModel, GraphFits, GraphsFit, MapsFit, GraphMapsFit}
+use Rattle.route_model.specs.Parts.{ModelParts}
+use Rattle.route_model.specs.Fit.{VarFits, ModelFits, IsModel, GraphFits}
 use Rattle.vrp_lex.specs.Text.{words_of, has_bad_byte, lines_of}
 use Rattle.model_text.specs.declared.kind.Kind.{Kind}
 use Rattle.model_text.specs.declared.kind.Kind.TheVariants as fault
@@ -18,14 +18,13 @@ use Rattle.model_text.specs.declared.draft.Section.{Section}
 use Rattle.model_text.specs.declared.draft.Draft.{Draft}
 use Rattle.model_text.specs.declared.line_kind.LineKind.{LineKind}
 use Rattle.model_text.specs.Wanted.{Words}
-use Rattle.model_text.specs.Draft.{empty_draft, sections_of, graph_of, parts_of}
+use Rattle.model_text.specs.Draft.{empty_draft, graph_of, parts_of}
 use Rattle.model_text.specs.LineKinds.{version_words, kind_of, may_stand, passes_limit, further_wanted}
 use Rattle.model_text.specs.FirstFault.{all_taken, line_of_kind, line_within, words_read, line_read, at_line, go_on, lines_read, is_ended, end_wanted, text_read, IsModelOf, ReadsAs}
 use Rattle.path_graph.specs.Free.{HasNoFreeCycle}
 use Rattle.model_text.specs.FreeCycles.{HasFreeCycle}
 use Rattle.model_text.specs.Totals.{path_total, arc_total}
-use Rattle.model_text.proofs.FitLemmas.{GivesOnly}
-use Rattle.model_text.proofs.DraftFitLemmas.{SectionFits, DraftFits, graph_fits, no_rows-fit, no_sections-fit}
+use Rattle.model_text.proofs.DraftFitLemmas.{DraftFits, graph_fits, no_rows-fit, no_sections-fit}
 use Rattle.model_text.proofs.LineFitLemmas.{further_wanted-fits}
 
 pub taken : {A : Type 0} (r : Result (A × Words) Kind) (e : A) → all_taken r ≡ Ok e → r ≡ Ok (e, [])

@@ -1,5 +1,5 @@
 -- Why a text is refused.
-use Rattle.std.specs.Prelude.{◌≡◌, ℕ, List, Result, Ok}
+use Rattle.std.specs.Prelude.{◌≡◌, ℕ, List, Ok}
 use Rattle.model_text.specs.declared.kind.TextFault.{TextFault}
 use Rattle.model_text.specs.declared.kind.ReadError.{ReadError}
 use Rattle.model_text.specs.declared.kind.ReadError.TheVariants as read

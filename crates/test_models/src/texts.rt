@@ -189,7 +189,7 @@ arc 0 1 0 1
 end
 ";
 
-/// Four vertices with packing sets, which are not read yet.
+/// Four vertices, of which the two in the middle are to be visited once each and are in a packing set each.
 pub const SETS: &str = "vrpmodel 1
 var 0 2 3
 var 0 2 4
@@ -211,5 +211,49 @@ arc 1 2 1 2
 arc 2 1 1 3
 arc 1 3 0 4
 arc 2 3 0 5
+end
+";
+
+/// Three customers in a packing set each, of which two fit a path. Each path costs 2.
+pub const CUSTOMERS: &str = "vrpmodel 1
+var 1 1 0
+var 1 1 0
+var 1 1 0
+var 0 3 2
+sets 3
+graph 5 0 4 0 3 1 0
+vertex - 0 2
+vertex 0 0 2
+vertex 1 0 2
+vertex 2 0 2
+vertex - 0 2
+arc 0 1 1 0 3
+arc 0 2 1 1 3
+arc 0 3 1 2 3
+arc 1 2 1 1
+arc 1 3 1 2
+arc 2 1 1 0
+arc 2 3 1 2
+arc 3 1 1 0
+arc 3 2 1 1
+arc 1 4 0
+arc 2 4 0
+arc 3 4 0
+end
+";
+
+/// Two graphs of one arc each, and a row that wants a path of each: the one costs 5 and the other 2.
+pub const GRAPHS: &str = "vrpmodel 1
+var 1 1 5
+var 0 1 2
+row 2 2 0 1 1 1
+graph 2 0 1 0 1 1 0
+vertex - 0 1
+vertex - 0 1
+arc 0 1 1 0
+graph 2 0 1 0 1 1 0
+vertex - 0 1
+vertex - 0 1
+arc 0 1 1 1
 end
 ";

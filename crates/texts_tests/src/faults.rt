@@ -2,8 +2,10 @@
 //! fault.
 
 use crate::outcomes::refuses;
-use crate::texts::{FOUR, WIDE, edit_of, edited};
+use crate::texts::WIDE;
 use std::test::Fail;
+use test_models::edits::{edit_of, edited};
+use test_models::texts::SETS;
 
 /// Faults of the text with four vertices.
 const OF_FOUR: &str = "1 1 | vrpmodel 2 | 1 Version
@@ -194,7 +196,7 @@ const OF_WIDE: &str = "9 9 | vertex - 0 5 0 9 -3 | 9 Word
 
 #[test]
 fn faults(rt: HostRuntime) -> Result<(), Fail> {
-    for (text, rows) in [(FOUR, OF_FOUR), (WIDE, OF_WIDE)] {
+    for (text, rows) in [(SETS, OF_FOUR), (WIDE, OF_WIDE)] {
         for row in rows.lines() {
             let (edit, expected) = edit_of(row)?;
             let text = edited(rt.alloc(), text, edit)?;

@@ -2,8 +2,10 @@
 //! line that are replaced, by what, and the fault.
 
 use crate::outcomes::refuses;
-use crate::texts::{FOUR, WIDE, edit_of, edited};
+use crate::texts::WIDE;
 use std::test::Fail;
+use test_models::edits::{edit_of, edited};
+use test_models::texts::SETS;
 
 /// Two faults of one line of the text with four vertices: the kinds in their order, then the words in theirs.
 const IN_A_LINE: &str = "1 1 | vrpmodel 2 \x01 | 1 Byte
@@ -111,7 +113,7 @@ const OF_WIDE: &str = "15 15 | graph 2 1 0 4093 4094 1 0 | 15 TooMany
 
 #[test]
 fn first_faults(rt: HostRuntime) -> Result<(), Fail> {
-    for (text, rows) in [(FOUR, IN_A_LINE), (FOUR, IN_THE_TEXT), (WIDE, OF_WIDE)] {
+    for (text, rows) in [(SETS, IN_A_LINE), (SETS, IN_THE_TEXT), (WIDE, OF_WIDE)] {
         for row in rows.lines() {
             let (edit, expected) = edit_of(row)?;
             let text = edited(rt.alloc(), text, edit)?;

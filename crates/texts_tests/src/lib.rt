@@ -12,6 +12,8 @@ mod limits;
 #[cfg(test)]
 mod outcomes;
 #[cfg(test)]
+mod plans;
+#[cfg(test)]
 mod printing;
 #[cfg(test)]
 mod texts;

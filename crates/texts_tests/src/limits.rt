@@ -2,8 +2,8 @@
 //! each once or as often as it says, in which `/` stands for LF, and what is expected.
 
 use crate::outcomes::{prints, refuses};
-use crate::texts::joined;
 use std::test::Fail;
+use test_models::edits::joined;
 
 /// Texts with a fault.
 const BEYOND: &str = "vrpmodel 1/ | 30001 times var 0 1 0/ | end/ | 30002 TooMany

@@ -2,8 +2,10 @@
 //! what, and what is printed in their place: `same` is the same, and `none` is no line.
 
 use crate::outcomes::prints;
-use crate::texts::{Edit, FOUR, WIDE, edit_of, edited};
+use crate::texts::WIDE;
 use std::test::Fail;
+use test_models::edits::{Edit, edit_of, edited};
+use test_models::texts::SETS;
 
 const OF_FOUR: &str = "1 0 |  | same
 1 0 | # a comment /  / \t # var \x00\x01\x7f é | none
@@ -72,7 +74,7 @@ const OF_WIDE: &str = "1 0 |  | same
 
 #[test]
 fn printed_again(rt: HostRuntime) -> Result<(), Fail> {
-    for (text, rows) in [(FOUR, OF_FOUR), (WIDE, OF_WIDE)] {
+    for (text, rows) in [(SETS, OF_FOUR), (WIDE, OF_WIDE)] {
         for row in rows.split_terminator('\n') {
             let (edit, expected) = edit_of(row)?;
             let lines = match expected {
@@ -90,7 +92,7 @@ fn printed_again(rt: HostRuntime) -> Result<(), Fail> {
 
 #[test]
 fn line_ends(rt: HostRuntime) -> Result<(), Fail> {
-    for text in [FOUR, WIDE] {
+    for text in [SETS, WIDE] {
         let mut returned = Vec::new(rt.alloc());
         for line in text.lines() {
             returned.extend_from_slice(line.as_bytes())?;

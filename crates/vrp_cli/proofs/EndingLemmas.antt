@@ -1,34 +1,24 @@
 -- Lemmas on the endings of a run.
-use Rattle.std.proofs.Common.{◌≡◌, ℕ, ◌≤◌, List, [], ◌∷◌, length, Option, IsTrue, Bool, map, get_or, arith, sym, ◌∙◌, ap, subst, ℤ}
-use Rattle.std.specs.Prelude.{codes}
-use Rattle.std.specs.Fmt.{decimal, digits}
-use Rattle.std.specs.Str.{bytes_eq}
-use Rattle.std.proofs.lemmas.Slice.Eq.{bytes_eq-Decides}
+use Rattle.std.proofs.Common.{◌≡◌, ℕ, ◌-◌, ◌≤◌, List, length, take, drop, Option, Result, Ok, Err, sym, ◌∙◌, ap, subst, refl, arith, ℤ}
+use Rattle.std.specs.Prelude.{IfOk}
+use Rattle.std.proofs.lemmas.List.{length-drop, take_all}
 use Rattle.std.proofs.KnownBytes.{Consumes-whole}
 use Rattle.vrp_io.specs.Bytes.{TookAll}
 use Rattle.route_model.specs.declared.plan.Taken.{Taken}
 use Rattle.route_model.specs.Parts.{ModelParts}
+use Rattle.route_model.specs.Quantities.{cost_of}
 use Rattle.model_text.specs.declared.kind.TextFault.{TextFault}
-use Rattle.model_text.specs.declared.kind.Kind.TheVariants.{Unbuilt}
-use Rattle.model_text.specs.Kinds.{kind_number, kind_name}
-use Rattle.model_text.specs.Lines.{line}
-use Rattle.model_text.specs.SmallForm.{Spells, SpellsNothing}
+use Rattle.model_text.specs.ModelEnd.{model_end}
+use Rattle.model_text.specs.Spelling.{Spells}
+use Rattle.model_text.specs.Refusal.{IsRefusedFor}
 use Rattle.vrp_cli.specs.declared.answer.Answer.{Answer}
-use Rattle.vrp_cli.specs.declared.answer.Answer.TheVariants.{Optimal, Infeasible, Words, Model, ReadFailed, Memory, TooLong}
-use Rattle.vrp_cli.specs.Headline.{IsLeastPlan, AreTaken, input_limit, optimal_text, TellsLeast, SpellsInfeasible, ReadWhole, Answers, optimal, infeasible, model_refused}
-use Rattle.vrp_cli.specs.Answer.{status_of, text_of, AnswersInput}
-
--- one word that is compared with another
-pub one_word : {X : Type 0} (f : X → List ℕ) (xs : List X) (x : X) (w v : List ℕ) (b : Bool) → length xs ≡ 1 → x ≡ get_or xs 0 x → v ≡ f x → b ≡ bytes_eq v w → (IsTrue b → map f xs ≡ w ∷ []) × (map f xs ≡ w ∷ [] → IsTrue b)
-one_word f [] x w v b l e g h = absurd (omega (arith, l))
-one_word f (y ∷ z ∷ ys) x w v b l e g h = absurd (omega (arith, l))
-one_word f (y ∷ []) x w v b l e g h = (
-  λ t. ap (λ (u : List ℕ). u ∷ []) (ap f (sym e) ∙ (sym g ∙ (bytes_eq-Decides v w).0 (sym h ∙ t))),
-  λ q. h ∙ (bytes_eq-Decides v w).1 (g ∙ (ap f e ∙ head q)),
-)
-  where
-    head : (f y ∷ []) ≡ (w ∷ []) → f y ≡ w
-    head q = cc
+use Rattle.vrp_cli.specs.declared.answer.Answer.TheVariants.{Optimal, Infeasible, Printed, Fine, Model, Paths, Plan}
+use Rattle.vrp_cli.specs.declared.command.Command.{Command}
+use Rattle.vrp_cli.specs.declared.command.Command.TheVariants.{Solve, Print, Eval}
+use Rattle.vrp_cli.specs.Commands.{Takes, model_part, path_part}
+use Rattle.vrp_cli.specs.Texts.{optimal_text, refused_model_text}
+use Rattle.vrp_cli.specs.Headline.{IsLeastPlan, input_limit, TellsLeast, SpellsInfeasible, TellsModel, SpellsSolution, ArePathsRefusedFor, IsPlanRefusedFor, ReadWhole, Answers, optimal, infeasible, printed, fine, model_refused, paths_refused, plan_refused}
+use Rattle.vrp_cli.specs.Answer.{status_of, text_of, RefusesModel, AnswersPaths, AnswersInput}
 
 -- the text of a least plan
 pub tells_least : (input text : List ℕ) (m : ModelParts) (plan : List Taken) (cost : ℤ) → Spells input m → IsLeastPlan m cost plan → text ≡ optimal_text cost plan → TellsLeast text input
@@ -42,23 +32,59 @@ tells_least input text m plan cost spelled best told =
       told = told ∙ ap (λ (z : ℤ). optimal_text z plan) best.costs;
     }
 
-read_whole : (old new : Option (List ℕ)) (faults_old faults_new : ℕ) (input : List ℕ) (P : List ℕ → Type 0) → TookAll old new input → faults_new ≡ faults_old → length input ≤ input_limit → P input → ReadWhole old new faults_old faults_new P
-read_whole old new faults_old faults_new input P took kept few holds =
-    record { end = took.end; kept = kept; input = Consumes-whole old new input (λ bytes. (length bytes ≤ input_limit) × P bytes) took.taken took.end (few, holds) }
+-- `eval` refuses the text up to the end of its model text
+pub refused_there : (input : List ℕ) (end : ℕ) (fault : TextFault) (text : List ℕ) → end ≡ model_end input → IsRefusedFor fault (take end input) → text ≡ refused_model_text fault → RefusesModel Eval input text
+refused_there input end fault text is refused told =
+    (fault, subst (λ (n : ℕ). IsRefusedFor fault (take n input)) is refused, told)
+
+-- what `eval` answers to the path text behind a model, it answers to the input
+pub behind_model : {E : Type 0} (input : List ℕ) (end : ℕ) (m : ModelParts) (r : Result Answer E) → end ≡ model_end input → Spells (take end input) m → IfOk r (AnswersPaths m (take (length input - end) (drop end input))) → IfOk r (AnswersInput Eval input)
+behind_model {E} input end m r is spelled answers =
+    let rest : take (length input - end) (drop end input) ≡ drop (model_end input) input =
+    take_all (length input - end) (drop end input) (omega (arith, length-drop end input)) ∙ ap (λ (n : ℕ). drop n input) is in
+    let model = subst (λ (n : ℕ). Spells (take n input) m) is spelled in
+    by_result r model (subst (λ (paths : List ℕ). IfOk r (AnswersPaths m paths)) rest answers)
+  where
+    of_answer : (answer : Answer) → Spells (model_part Eval input) m → AnswersPaths m (path_part input) answer → AnswersInput Eval input answer
+    of_answer (Model text) spelled p = absurd p.2
+    of_answer (Paths text) spelled p = (m, spelled, p)
+    of_answer _ spelled p = (m, spelled, p)
+
+    by_result : (r : Result Answer E) → Spells (model_part Eval input) m → IfOk r (AnswersPaths m (path_part input)) → IfOk r (AnswersInput Eval input)
+    by_result (Ok answer) spelled p = of_answer answer spelled p
+    by_result (Err e) spelled p = p
 
 -- what is answered to an input that was read whole
-pub answers_input : (words : List (List ℕ)) (old new : Option (List ℕ)) (faults_old faults_new : ℕ) (input : List ℕ) (answer : Answer) → AreTaken words → TookAll old new input → faults_new ≡ faults_old → length input ≤ input_limit → AnswersInput input answer → Answers words old new faults_old faults_new (status_of answer) (text_of answer)
-answers_input words old new fo fn input (Optimal text) taken took kept few holds = optimal text taken (read_whole old new fo fn input (TellsLeast text) took kept few holds)
-answers_input words old new fo fn input Infeasible taken took kept few holds = infeasible taken (read_whole old new fo fn input SpellsInfeasible took kept few holds)
-answers_input words old new fo fn input Words taken took kept few holds = absurd holds
-answers_input words old new fo fn input (Model text) taken took kept few holds =
-    subst (λ (t : List ℕ). Answers words old new fo fn 3 t) (sym holds.1) (model_refused taken (read_whole old new fo fn input SpellsNothing took kept few holds.0))
-answers_input words old new fo fn input ReadFailed taken took kept few holds = absurd holds
-answers_input words old new fo fn input Memory taken took kept few holds = absurd holds
-answers_input words old new fo fn input TooLong taken took kept few holds = absurd holds
+pub answers_input : (words : List (List ℕ)) (old new : Option (List ℕ)) (faults_old faults_new : ℕ) (command : Command) (input : List ℕ) (answer : Answer) → Takes words command → TookAll old new input → faults_new ≡ faults_old → length input ≤ input_limit → AnswersInput command input answer → Answers words old new faults_old faults_new (status_of answer) (text_of answer)
+answers_input words old new fo fn command input answer taken took kept few holds = of_command command answer taken holds
+  where
+    whole : (P : List ℕ → Type 0) → P input → ReadWhole old new fo fn P
+    whole P holds = record {
+      end = took.end;
+      kept = kept;
+      input = Consumes-whole old new input (λ bytes. (length bytes ≤ input_limit) × P bytes) took.taken took.end (few, holds);
+    }
 
--- the text of the one refusal of a model
-pub refusal_told : (fault : TextFault) → fault ≡ record { line = 1; kind = Unbuilt } → line (codes "refused") (codes "model" ∷ decimal fault.line ∷ decimal (kind_number fault.kind) ∷ kind_name fault.kind ∷ []) ≡ codes "refused model 1 17 Unbuilt\n"
-unfolding digits
-refusal_told fault is =
-    ap (λ (f : TextFault). line (codes "refused") (codes "model" ∷ decimal f.line ∷ decimal (kind_number f.kind) ∷ kind_name f.kind ∷ [])) is
+    -- a text by an equation
+    told : (status : ℕ) (is text : List ℕ) → text ≡ is → Answers words old new fo fn status is → Answers words old new fo fn status text
+    told status is text e answers = subst (λ (t : List ℕ). Answers words old new fo fn status t) (sym e) answers
+
+    refuses : (command : Command) (text : List ℕ) → Takes words command → RefusesModel command input text → Answers words old new fo fn 3 text
+    refuses command text taken p = told 3 _ text p.2 (model_refused command p.0 taken (whole (λ bytes. IsRefusedFor p.0 (model_part command bytes)) p.1))
+
+    of_paths : (m : ModelParts) (answer : Answer) → Takes words Eval → Spells (model_part Eval input) m → AnswersPaths m (path_part input) answer → Answers words old new fo fn (status_of answer) (text_of answer)
+    of_paths m (Paths text) taken spelled p = told 4 _ text p.3 (paths_refused p.0 taken (whole (ArePathsRefusedFor p.0) (record { model = m; spelled = spelled; first = p.1; none = p.2 })))
+    of_paths m (Fine text) taken spelled p = told 0 _ text p.2.1 (fine (cost_of m p.0) taken (whole (SpellsSolution (cost_of m p.0)) (record { model = m; spelled = spelled; plan = p.0; planned = p.1; solves = p.2.0; costs = refl })))
+    of_paths m (Plan text) taken spelled p = told 4 _ text p.2.3 (plan_refused p.2.0 taken (whole (IsPlanRefusedFor p.2.0) (record { model = m; spelled = spelled; plan = p.0; planned = p.1; unsolved = p.2.2; first = p.2.1 })))
+    of_paths m _ taken spelled p = absurd p.2
+
+    of_command : (command : Command) (answer : Answer) → Takes words command → AnswersInput command input answer → Answers words old new fo fn (status_of answer) (text_of answer)
+    of_command Solve (Optimal text) taken p = optimal text taken (whole (TellsLeast text) p)
+    of_command Solve Infeasible taken p = infeasible taken (whole SpellsInfeasible p)
+    of_command Solve (Model text) taken p = refuses Solve text taken p
+    of_command Solve _ taken p = absurd p
+    of_command Print (Printed text) taken p = printed text taken (whole (TellsModel text) p)
+    of_command Print (Model text) taken p = refuses Print text taken p
+    of_command Print _ taken p = absurd p
+    of_command Eval (Model text) taken p = refuses Eval text taken p
+    of_command Eval answer taken p = of_paths p.0 answer taken p.1 p.2

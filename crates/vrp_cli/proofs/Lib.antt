@@ -8,4 +8,7 @@ pub mod LimitLemmas
 pub mod ChoiceLemmas
 pub mod ExchangeLemmas
 pub mod EndingLemmas
+pub mod JudgeLemmas
+pub mod RunLemmas
 pub mod ClauseLemmas
+pub mod DueLemmas

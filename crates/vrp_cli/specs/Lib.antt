@@ -1,4 +1,7 @@
+pub mod Commands
+pub mod Texts
 pub mod Headline
+pub mod Endings
 pub mod Answer
 pub mod Ahead
 pub mod Partial

@@ -2,6 +2,7 @@ ghost use Rattle.std.specs.Prelude.{◌≡◌};
 ghost use Rattle.vrp_cli.specs.Answer.{status_of, text_of};
 
 use model_text::LineWriter;
+use path_graph::List;
 
 /// What a run answers.
 #[derive(Drop)]
@@ -10,10 +11,18 @@ pub(crate) enum Answer {
     Optimal(LineWriter),
     /// There is no solution.
     Infeasible,
+    /// The printed text of a model.
+    Printed(List<u8>),
+    /// A plan is a solution, by the text of its cost.
+    Fine(LineWriter),
     /// The words are not taken.
     Words,
-    /// The input is refused, by the text of its fault.
+    /// The model text is refused, by the text of its fault.
     Model(LineWriter),
+    /// The path text is refused, by the text of its fault.
+    Paths(LineWriter),
+    /// A plan is no solution, by the text of its fault.
+    Plan(LineWriter),
     ReadFailed,
     Memory,
     TooLong,
@@ -27,8 +36,12 @@ impl Answer {
         match self {
             Answer::Optimal(_) => 0,
             Answer::Infeasible => 1,
+            Answer::Printed(_) => 0,
+            Answer::Fine(_) => 0,
             Answer::Words => 2,
             Answer::Model(_) => 3,
+            Answer::Paths(_) => 4,
+            Answer::Plan(_) => 4,
             Answer::ReadFailed => 7,
             Answer::Memory => 9,
             Answer::TooLong => 10,
@@ -42,8 +55,12 @@ impl Answer {
         match self {
             Answer::Optimal(text) => text.as_slice(),
             Answer::Infeasible => b"infeasible\n",
+            Answer::Printed(text) => text.as_slice(),
+            Answer::Fine(text) => text.as_slice(),
             Answer::Words => b"refused words\n",
             Answer::Model(text) => text.as_slice(),
+            Answer::Paths(text) => text.as_slice(),
+            Answer::Plan(text) => text.as_slice(),
             Answer::ReadFailed => b"fault read\n",
             Answer::Memory => b"fault memory\n",
             Answer::TooLong => b"refused input too long\n",

@@ -1,11 +1,16 @@
-//! The program's one call: it reads a model, solves it by a plain search, and writes the answer. A second call takes
-//! a model that is built.
+//! The program's one call: it reads a model, does what its command says, and writes the answer. `solve` finds a least
+//! plan by a plain search, `print` prints the model, and `eval` judges a plan. A second call takes a model that is built.
 #![tactic(auto)]
 
 mod answer;
+mod command;
+mod eval;
+mod print;
 mod run;
 mod search;
 mod solve;
+mod texts;
 
+pub use command::Command;
 pub use run::{Status, run_vrp};
 pub use search::{Best, least_plan};

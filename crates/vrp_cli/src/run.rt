@@ -1,14 +1,19 @@
-ghost use Rattle.std.specs.Prelude.{◌≡◌, ◌↔◌, ◌+◌, ◌<◌, ◌≤◌, ◌⊎◌, ℕ, List, IsTrue, IfSome, map, string_bytes, codes, length};
+ghost use Rattle.std.specs.Prelude.{◌≡◌, ◌+◌, ◌-◌, ◌^◌, ◌<◌, ◌⊎◌, ℕ, List, IfSome, IfOk, map, string_bytes, codes, length};
 ghost use Rattle.std.specs.Io.KnownBytes.{Appends};
 ghost use Rattle.vrp_io.specs.Counts.{Rose};
 ghost use Rattle.vrp_io.specs.Bytes.{TookExactly};
-ghost use Rattle.route_model.specs.Parts.{ModelParts};
-ghost use Rattle.model_text.specs.SmallForm.{Spells, SpellsNothing};
-ghost use Rattle.vrp_cli.specs.Headline.{AreTaken, input_limit, Answers, Tells, Runs, WroteLeast, SpellsInfeasible, IsDue};
-ghost use Rattle.vrp_cli.specs.Answer.{status_of, text_of};
+ghost use Rattle.vrp_cli.specs.declared.command.Command.{Command};
+ghost use Rattle.vrp_cli.specs.Commands.{Takes, AreTaken, model_part};
+ghost use Rattle.vrp_cli.specs.Headline.{input_limit, Answers, Runs, SpellsInfeasible};
+ghost use Rattle.vrp_cli.specs.Endings.{WroteLeast, WroteModel, WroteCost, WroteFault, WrotePlanFault, IsDue};
+ghost use Rattle.vrp_cli.specs.Answer.{status_of, text_of, AnswersInput};
 
 use crate::answer::Answer;
+use crate::command::{Command, command_of};
+use crate::eval::eval;
+use crate::print::print;
 use crate::solve::solve;
+use path_graph::NoMemory;
 use std::alloc::Global;
 use std::thread::Threads;
 use vrp_io::{Gate, ReadFault, Sink, Source, read_all, write_all};
@@ -18,8 +23,8 @@ const INPUT_LIMIT: u32 = 67_108_864;
 
 /// How a run ended: the number that the program ends with.
 ///
-/// 0 optimal, 1 infeasible, 2 refused words, 3 refused model, 7 fault of reading, 8 fault of writing, 9 want of
-/// memory, 10 input too long.
+/// 0 optimal, printed or fine, 1 infeasible, 2 refused words, 3 refused model, 4 refused paths or plan, 7 fault of
+/// reading, 8 fault of writing, 9 want of memory, 10 input too long.
 #[derive(Clone, Copy, Debug, PartialEq, Eq)]
 pub struct Status {
     pub number: u8,
@@ -43,12 +48,22 @@ pub fn run_vrp<R: Threads + Sync, S: Source, K: Sink, G: Gate + Sync>(
         (K.written sink.old) (K.written sink.new) (K.faults sink.old) (K.faults sink.new) result.number }
 
     // What each status says.
-    ensures optimal { result.number ≡ 0 → IfSome (S.left source.old)
-        (WroteLeast (K.written sink.old) (K.written sink.new)) }
-    ensures infeasible { result.number ≡ 1 → IfSome (S.left source.old) SpellsInfeasible
+    ensures optimal { Takes (map string_bytes words.now) Command.Solve → result.number ≡ 0
+        → IfSome (S.left source.old) (WroteLeast (K.written sink.old) (K.written sink.new)) }
+    ensures print { Takes (map string_bytes words.now) Command.Print → result.number ≡ 0
+        → IfSome (S.left source.old) (WroteModel (K.written sink.old) (K.written sink.new)) }
+    ensures fine { Takes (map string_bytes words.now) Command.Eval → result.number ≡ 0
+        → IfSome (S.left source.old) (WroteCost (K.written sink.old) (K.written sink.new)) }
+    ensures infeasible { result.number ≡ 1 → Takes (map string_bytes words.now) Command.Solve
+        × IfSome (S.left source.old) SpellsInfeasible
         × Appends (K.written sink.old) (K.written sink.new) (codes "infeasible\n") }
     ensures words { result.number ≡ 2 → AreTaken (map string_bytes words.now) → ⊥ }
-    ensures model { result.number ≡ 3 → IfSome (S.left source.old) SpellsNothing }
+    ensures model { result.number ≡ 3 → (command : Command)
+        × Takes (map string_bytes words.now) command
+        × IfSome (S.left source.old) (λ input.
+        WroteFault (K.written sink.old) (K.written sink.new) (model_part command input)) }
+    ensures refused { result.number ≡ 4 → Takes (map string_bytes words.now) Command.Eval
+        × IfSome (S.left source.old) (WrotePlanFault (K.written sink.old) (K.written sink.new)) }
     ensures read { result.number ≡ 7 → Rose (S.faults source.old) (S.faults source.new) }
     ensures write { result.number ≡ 8 → Rose (K.faults sink.old) (K.faults sink.new) }
     ensures long { result.number ≡ 10 →
@@ -57,10 +72,10 @@ pub fn run_vrp<R: Threads + Sync, S: Source, K: Sink, G: Gate + Sync>(
     // When each must come, where no fault rises and memory is not wanting.
     ensures unread { (AreTaken (map string_bytes words.now) → ⊥) →
         (source.new ≡ source.old) × ((result.number ≡ 2) ⊎ (result.number ≡ 8)) }
-    ensures due { AreTaken (map string_bytes words.now)
+    ensures due { (command : Command) → Takes (map string_bytes words.now) command
         → (Rose (S.faults source.old) (S.faults source.new) → ⊥)
         → (Rose (K.faults sink.old) (K.faults sink.new) → ⊥)
-        → (result.number ≡ 9) ⊎ IfSome (S.left source.old) (IsDue result.number) }
+        → (result.number ≡ 9) ⊎ IfSome (S.left source.old) (IsDue command result.number) }
 {
     answer_words(alloc, words, source, sink)
 }
@@ -93,11 +108,11 @@ fn decide<S: Source>(alloc: Global, words: &[String], source: &mut S) -> Answer
         (status_of result) (text_of result) }
     ensures unread { (AreTaken (map string_bytes words.now) → ⊥) → source.new ≡ source.old }
 {
-    if !are_taken(words) {
+    let Some(command) = command_of(words) else {
         return Answer::Words;
-    }
+    };
     match read_all(alloc, source, INPUT_LIMIT) {
-        Ok(input) => match solve(alloc, input.as_slice()) {
+        Ok(input) => match answer_input(alloc, command, input.as_slice()) {
             Ok(answer) => answer,
             Err(_) => Answer::Memory,
         },
@@ -107,9 +122,14 @@ fn decide<S: Source>(alloc: Global, words: &[String], source: &mut S) -> Answer
     }
 }
 
-/// Whether the words are the one word `solve`.
-fn are_taken(words: &[String]) -> bool
-    ensures { IsTrue result ↔ AreTaken (map string_bytes words.now) }
+/// The answer of a command to an input.
+fn answer_input(alloc: Global, command: Command, input: &[u8]) -> Result<Answer, NoMemory>
+    requires { length input.now < 2 ^ 32 - 1 }
+    ensures { IfOk result (AnswersInput command input.now) }
 {
-    words.len() == 1 && words[0].as_str() == "solve"
+    match command {
+        Command::Solve => solve(alloc, input),
+        Command::Print => print(alloc, input),
+        Command::Eval => eval(alloc, input),
+    }
 }

@@ -2,8 +2,14 @@
 #![tactic(auto)]
 
 #[cfg(test)]
-mod answers;
+mod evaluating;
+#[cfg(test)]
+mod printing;
+#[cfg(test)]
+mod refused_words;
 #[cfg(test)]
 mod running;
+#[cfg(test)]
+mod solving;
 #[cfg(test)]
 mod streams;

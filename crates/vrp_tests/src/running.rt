@@ -3,8 +3,10 @@
 ghost use Rattle.std.specs.Prelude.{◌<◌};
 
 use std::alloc::Global;
+use std::process::Abort;
 use std::test::Fail;
 use std::thread::Threads;
+use test_models::edits::{edit_of, edited, joined, lines_text};
 use vrp_cli::run_vrp;
 use vrp_io::{MemSink, MemSource, NoGate};
 
@@ -51,4 +53,74 @@ pub fn run<R: Threads + Sync>(
         number: status.number,
         sink,
     })
+}
+
+/// Asserts that a run ends with this status and writes this text.
+pub fn answers<R: Threads + Sync + Abort>(
+    rt: &R,
+    alloc: Global,
+    words: &str,
+    input: &[u8],
+    status: u8,
+    text: &[u8],
+    row: &str,
+) -> Result<(), Fail> {
+    let streams = Streams {
+        read_piece: 1_000,
+        failing_reads: &[],
+        write_piece: 1_000,
+        failing_writes: &[],
+    };
+    let ended = run(rt, alloc, words, input, streams)?;
+    assert_eq!(rt; ended.number, status, "{row}");
+    assert_eq!(rt; ended.sink.written(), text, "{row}");
+    Ok(())
+}
+
+/// Asserts what a run over an input ends with, as `3 | refused model 22 12 FreeCycle`: the status, and the lines.
+fn ends_as<R: Threads + Sync + Abort>(
+    rt: &R,
+    alloc: Global,
+    words: &str,
+    input: &[u8],
+    expected: &str,
+    row: &str,
+) -> Result<(), Fail> {
+    let (status, lines) = expected.split_once(" | ").ok_or("a row without a status")?;
+    let text = lines_text(alloc, lines)?;
+    let status = status.parse::<u8>()?;
+    answers(rt, alloc, words, input, status, text.as_slice(), row)
+}
+
+/// Asserts rows of edits of a text, as `16 16 | arc 0 1 -1 0 | 3 | refused model 16 11 MainNegative`: the first and the
+/// last line that are replaced, by what, the status, and the lines that are written.
+pub fn edits_answer<R: Threads + Sync + Abort>(
+    rt: &R,
+    alloc: Global,
+    words: &str,
+    text: &str,
+    rows: &str,
+) -> Result<(), Fail> {
+    for row in rows.lines() {
+        let (edit, expected) = edit_of(row)?;
+        let input = edited(alloc, text, edit)?;
+        ends_as(rt, alloc, words, input.as_slice(), expected, row)?;
+    }
+    Ok(())
+}
+
+/// Asserts rows of whole inputs, as `vrpmodel 1/end/ | 0 | optimal 0`: the input, in which `/` stands for LF, the status,
+/// and the lines that are written.
+pub fn inputs_answer<R: Threads + Sync + Abort>(
+    rt: &R,
+    alloc: Global,
+    words: &str,
+    rows: &str,
+) -> Result<(), Fail> {
+    for row in rows.lines() {
+        let (input, expected) = row.split_once(" | ").ok_or("a row without a status")?;
+        let input = joined(alloc, input)?;
+        ends_as(rt, alloc, words, input.as_slice(), expected, row)?;
+    }
+    Ok(())
 }

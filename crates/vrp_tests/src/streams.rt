@@ -8,12 +8,20 @@ use test_models::texts;
 use vrp_cli::run_vrp;
 use vrp_io::{Gate, NoGate, StdSink, StdSource, write_all};
 
+/// A model of nothing, and the plan without a path.
+const NOTHING: &str = "vrpmodel 1
+end
+end
+";
+
 #[test]
 fn faults(rt: HostRuntime) -> Result<(), Fail> {
     let none: &[u32] = &[];
-    for (name, read_piece, failing_reads, write_piece, failing_writes, number, text) in [
+    for (words, input, read_piece, failing_reads, write_piece, failing_writes, number, text) in [
+        // The third read fails.
         (
-            "the third read fails",
+            "solve",
+            texts::SETS,
             100,
             [3].as_slice(),
             1_000,
@@ -22,7 +30,29 @@ fn faults(rt: HostRuntime) -> Result<(), Fail> {
             "fault read\n",
         ),
         (
-            "the second write fails",
+            "print",
+            texts::SETS,
+            100,
+            [3].as_slice(),
+            1_000,
+            none,
+            7,
+            "fault read\n",
+        ),
+        (
+            "eval",
+            NOTHING,
+            8,
+            [3].as_slice(),
+            1_000,
+            none,
+            7,
+            "fault read\n",
+        ),
+        // The second write fails.
+        (
+            "solve",
+            texts::SETS,
             1_000,
             none,
             10,
@@ -31,16 +61,46 @@ fn faults(rt: HostRuntime) -> Result<(), Fail> {
             "optimal 9\n",
         ),
         (
-            "the first write fails",
+            "print",
+            texts::SETS,
             1_000,
             none,
             10,
-            [1].as_slice(),
+            [2].as_slice(),
             8,
-            "",
+            "vrpmodel 1",
         ),
+        ("eval", NOTHING, 1_000, none, 4, [2].as_slice(), 8, "fine"),
+        // The first write fails.
+        ("solve", texts::SETS, 1_000, none, 10, [1].as_slice(), 8, ""),
+        ("print", texts::SETS, 1_000, none, 10, [1].as_slice(), 8, ""),
+        ("eval", NOTHING, 1_000, none, 10, [1].as_slice(), 8, ""),
+        // Words that are refused are told, or not.
         (
-            "small pieces",
+            "Print",
+            texts::SETS,
+            100,
+            [1].as_slice(),
+            10,
+            [2].as_slice(),
+            8,
+            "refused wo",
+        ),
+        // A fault of reading, and one of writing what it was.
+        (
+            "print",
+            texts::SETS,
+            100,
+            [1].as_slice(),
+            6,
+            [2].as_slice(),
+            8,
+            "fault ",
+        ),
+        // Small pieces.
+        (
+            "solve",
+            texts::SETS,
             1,
             none,
             1,
@@ -48,6 +108,8 @@ fn faults(rt: HostRuntime) -> Result<(), Fail> {
             0,
             "optimal 9\npath 0 1 0 2 5\n",
         ),
+        ("print", texts::SETS, 1, none, 1, none, 0, texts::SETS),
+        ("eval", NOTHING, 1, none, 1, none, 0, "fine 0\n"),
     ] {
         let streams = Streams {
             read_piece,
@@ -55,9 +117,9 @@ fn faults(rt: HostRuntime) -> Result<(), Fail> {
             write_piece,
             failing_writes,
         };
-        let ended = run(&rt, rt.alloc(), "solve", texts::FOUR.as_bytes(), streams)?;
-        assert_eq!(rt; ended.number, number, "{name}");
-        assert_eq!(rt; ended.sink.written(), text.as_bytes(), "{name}");
+        let ended = run(&rt, rt.alloc(), words, input.as_bytes(), streams)?;
+        assert_eq!(rt; ended.number, number, "{words}");
+        assert_eq!(rt; ended.sink.written(), text.as_bytes(), "{words}");
     }
     Ok(())
 }
@@ -71,12 +133,15 @@ fn input_too_long(rt: HostRuntime) -> Result<(), Fail> {
         write_piece: 1_000,
         failing_writes: &[],
     };
-    let ended = run(&rt, rt.alloc(), "solve", blanks.as_slice(), streams)?;
-    assert_eq!(rt; ended.number, 10);
-    assert_eq!(rt;
-        ended.sink.written(),
-        b"refused input too long\n".as_slice()
-    );
+    for words in ["solve", "print", "eval"] {
+        let ended = run(&rt, rt.alloc(), words, blanks.as_slice(), streams)?;
+        assert_eq!(rt; ended.number, 10, "{words}");
+        assert_eq!(rt;
+            ended.sink.written(),
+            b"refused input too long\n".as_slice(),
+            "{words}"
+        );
+    }
     Ok(())
 }
 

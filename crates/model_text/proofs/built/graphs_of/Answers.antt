@@ -1,4 +1,4 @@
-use Rattle.std.proofs.Common.{◌≡◌, ◌≤◌, All, length, take, subst, arith}
+use Rattle.std.proofs.Common.{◌≤◌, All, length, subst, arith}
 use Rattle.std.proofs.lemmas.List.{take_all}
 use Rattle.path_graph.specs.Free.{HasNoFreeCycle}
 use Rattle.model_text.specs.declared.draft.Section.{Section}

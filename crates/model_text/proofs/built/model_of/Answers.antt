@@ -1,8 +1,8 @@
-use Rattle.std.proofs.Common.{◌≡◌, ℕ, ◌<◌, ◌≤◌, ◌^◌, All, map, List, refl, ap, sym, ◌∙◌, subst, Err}
+use Rattle.std.proofs.Common.{◌≡◌, ℕ, ◌^◌, All, map, List, refl, ap, sym, ◌∙◌, subst, Err}
 use Rattle.path_graph.specs.Free.{HasNoFreeCycle}
 use Rattle.path_graph.specs.Parts.{GraphParts}
 use Rattle.route_model.specs.Parts.{ModelParts}
-use Rattle.route_model.specs.Fit.{ModelFits, cost_range}
+use Rattle.route_model.specs.Fit.{cost_range}
 use Rattle.model_text.specs.declared.draft.Section.{Section}
 use Rattle.model_text.specs.Draft.{graph_of, SectionPartsFit}
 use Rattle.model_text.proofs.BuildLemmas.{ended_parts, told_graphs_fit, told_model_fits, told_model, told_cost_range, not_above}

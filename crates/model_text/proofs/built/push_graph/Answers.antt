@@ -1,4 +1,3 @@
-use Rattle.std.proofs.Common.{◌≡◌}
 use Rattle.model_text.proofs.built.push_graph.Goals as goal
 
 pub returns-clause-acyclic : goal.returns-clause-acyclic

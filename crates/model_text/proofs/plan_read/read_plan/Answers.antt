@@ -1,6 +1,6 @@
 use Rattle.std.proofs.lemmas.Result.{err_from_is_err_and}
 use Rattle.model_text.proofs.PlanReadsLemmas.{plan_reads_spelled}
-use Rattle.model_text.proofs.PlanSpelledLemmas.{plan_refused, spells_one_plan}
+use Rattle.model_text.proofs.PlanSpelledLemmas.{plan_refused, spelled_is_read}
 use Rattle.model_text.proofs.plan_read.read_plan.Goals as goal
 
 pub returns-in_err-paths-clause-refused : goal.returns-in_err-paths-clause-refused
@@ -12,4 +12,4 @@ pub returns-clause-ok : goal.returns-clause-ok
 returns-clause-ok c = plan_reads_spelled c.args.bytes.now c.in_ok-paths.paths c.in_ok-paths.ensures
 
 pub returns-clause-only : goal.returns-clause-only
-returns-clause-only c paths spells = spells_one_plan c.args.bytes.now paths c.in_ok-paths.paths spells c.in_ok-paths.ensures
+returns-clause-only c paths spells = spelled_is_read c.args.bytes.now paths c.in_ok-paths.paths spells c.in_ok-paths.ensures

@@ -1,7 +1,7 @@
 use Rattle.std.proofs.Common.{ap, ◌∙◌, ℤ, FitsSigned, w64, rules}
 use Rattle.std.proofs.lemmas.Int.{to_z-of_z}
-use Rattle.vrp_cli.specs.Headline.{optimal_text}
-use Rattle.vrp_cli.proofs.EndingLemmas.{tells_least, refusal_told}
+use Rattle.vrp_cli.specs.Texts.{optimal_text}
+use Rattle.vrp_cli.proofs.EndingLemmas.{tells_least}
 use Rattle.vrp_cli.proofs.solve.solve.Goals as goal
 
 pub returns : goal.returns
@@ -14,4 +14,7 @@ returns c =
 pub returns-in-Err-Text : goal.returns-in-Err-Text
 returns-in-Err-Text c =
     let refused = rw c.in-Err-Text.field-0-is at c.in-Err-Text.ensures.refused in
-    (refused.1, c.in_ok-refusal_text-in-Err-Text.ensures ∙ refusal_told c.in-Err-Text.fault refused.0)
+    (c.in-Err-Text.fault, refused, c.in_ok-fault_line-in-Err-Text.ensures)
+
+pub returns-in_default : goal.returns-in_default
+returns-in_default c = record { model = c.in-Ok.model; spelled = c.in-Ok.ensures.ok; none = rw c.in_default.is at c.in_ok-best.ensures.least }

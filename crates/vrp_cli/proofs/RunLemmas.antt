@@ -1,0 +1,48 @@
+-- What holds of a whole run, by its answer and how it was told.
+use Rattle.std.proofs.Common.{◌≡◌, ℕ, ◌≤◌, ◌<◌, inl, inr, List, [], length, get_or, Option, Some, None, IfSome, arith, sym, ◌∙◌, ap, refl}
+use Rattle.std.specs.Io.KnownBytes.{Appends}
+use Rattle.vrp_io.specs.Counts.{Rose}
+use Rattle.vrp_cli.specs.declared.command.Command.{Command}
+use Rattle.vrp_cli.specs.declared.command.Command.TheVariants.{Solve, Print, Eval}
+use Rattle.vrp_cli.specs.Commands.{word_of, Takes}
+use Rattle.vrp_cli.specs.Headline.{input_limit, ReadWhole, Answers, Runs}
+
+if_some : {X : Type 0} (a : Option X) (P Q : X → Type 0) → ((x : X) → P x → Q x) → IfSome a P → IfSome a Q
+if_some None P Q f h = h
+if_some (Some x) P Q f h = f x h
+
+-- what follows of an input that was read whole
+pub on_input : {old new : Option (List ℕ)} {f g : ℕ} {P : List ℕ → Type 0} (Q : List ℕ → Type 0) → ReadWhole old new f g P → ((input : List ℕ) → length input ≤ input_limit → P input → Q input) → IfSome old Q
+on_input {old} {new} {f} {g} {P} Q whole next =
+    if_some old (λ input. (length input ≤ input_limit) × P input) Q (λ input p. next input p.0 p.1) whole.input
+
+-- what holds of an answer that was written, and of one that was not
+pub of_run : {words : List (List ℕ)} {a b : Option (List ℕ)} {f g : ℕ} {w v : Option (List ℕ)} {h k end : ℕ} (Q : Type 0) → Runs words a b f g w v h k end
+    → ((status : ℕ) (text : List ℕ) → Answers words a b f g status text → end ≡ status → Appends w v text → Q)
+    → (end ≡ 8 → Rose h k → Q) → Q
+of_run Q run told cut =
+    elim run.tells [
+      | inl t ↦ told run.status run.text run.answers t.0 t.1
+      | inr t ↦ cut t.0 t.1
+    ]
+
+-- the same where the run ended with a status that no fault of writing has
+pub of_status : {words : List (List ℕ)} {a b : Option (List ℕ)} {f g : ℕ} {w v : Option (List ℕ)} {h k end : ℕ} (Q : Type 0) (number : ℕ) → number < 8 → Runs words a b f g w v h k end → end ≡ number
+    → ((status : ℕ) (text : List ℕ) → Answers words a b f g status text → status ≡ number → Appends w v text → Q) → Q
+of_status Q number low run e told =
+    of_run Q run (λ status text answers is wrote. told status text answers (sym is ∙ e) wrote) (λ is rose. absurd (omega (arith, is, e, low)))
+
+-- words name one command
+pub one_command : (words : List (List ℕ)) (c d : Command) → Takes words c → Takes words d → c ≡ d
+one_command words c d p q = same c d (ap (λ (ws : List (List ℕ)). get_or (get_or ws 0 []) 0 0) (sym p ∙ q))
+  where
+    same : (c d : Command) → get_or (word_of c) 0 0 ≡ get_or (word_of d) 0 0 → c ≡ d
+    same Solve Solve e = refl
+    same Solve Print e = absurd (omega (arith, e))
+    same Solve Eval e = absurd (omega (arith, e))
+    same Print Solve e = absurd (omega (arith, e))
+    same Print Print e = refl
+    same Print Eval e = absurd (omega (arith, e))
+    same Eval Solve e = absurd (omega (arith, e))
+    same Eval Print e = absurd (omega (arith, e))
+    same Eval Eval e = refl

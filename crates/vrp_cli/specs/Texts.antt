@@ -1,0 +1,48 @@
+-- The texts of answers.
+use Rattle.std.specs.Prelude.{ℕ, ℤ, List, [], ◌∷◌, ◌++◌, codes}
+use Rattle.std.specs.List.{flat_map}
+use Rattle.std.specs.Fmt.{decimal, signed_decimal}
+use Rattle.route_model.specs.declared.plan.Taken.{Taken}
+use Rattle.route_model.specs.declared.plan.Verdict.{Verdict}
+use Rattle.route_model.specs.declared.plan.Verdict.TheVariants.{Fine, NotWalk, Count, Packing, VarBox, RowBox}
+use Rattle.model_text.specs.declared.kind.TextFault.{TextFault}
+use Rattle.model_text.specs.Kinds.{kind_number, kind_name}
+use Rattle.model_text.specs.Lines.{line, path_line}
+
+-- a word and a cost
+abbrev pub cost_line : List ℕ → ℤ → List ℕ
+cost_line word cost = line word (signed_decimal cost ∷ [])
+
+-- `optimal COST`, then the lines of the paths
+abbrev pub optimal_text : ℤ → List Taken → List ℕ
+optimal_text cost plan = cost_line (codes "optimal") cost ++ flat_map path_line plan
+
+-- `fine COST`
+abbrev pub fine_text : ℤ → List ℕ
+fine_text cost = cost_line (codes "fine") cost
+
+-- `refused PART LINE NUMBER KIND`
+abbrev pub fault_text : List ℕ → TextFault → List ℕ
+fault_text part fault =
+    line (codes "refused") (part ∷ decimal fault.line ∷ decimal (kind_number fault.kind) ∷ kind_name fault.kind ∷ [])
+
+-- `refused model LINE NUMBER KIND`
+abbrev pub refused_model_text : TextFault → List ℕ
+refused_model_text fault = fault_text (codes "model") fault
+
+-- `refused paths LINE NUMBER KIND`
+abbrev pub refused_paths_text : TextFault → List ℕ
+refused_paths_text fault = fault_text (codes "paths") fault
+
+-- the first fault of a plan, in two words; a plan that is fine has none
+abbrev pub plan_fault_words : Verdict → List (List ℕ)
+plan_fault_words (Fine cost) = []
+plan_fault_words (NotWalk i) = codes "walk" ∷ decimal i ∷ []
+plan_fault_words (Count g) = codes "count" ∷ decimal g ∷ []
+plan_fault_words (Packing s) = codes "packing" ∷ decimal s ∷ []
+plan_fault_words (VarBox j) = codes "variable" ∷ decimal j ∷ []
+plan_fault_words (RowBox i) = codes "row" ∷ decimal i ∷ []
+
+-- `refused plan`, then its first fault
+abbrev pub refused_plan_text : Verdict → List ℕ
+refused_plan_text verdict = line (codes "refused") (codes "plan" ∷ plan_fault_words verdict)

@@ -1,0 +1,71 @@
+ghost use Rattle.std.specs.Prelude.{◌≡◌, ◌∷◌, [], ◌++◌, IfOk, OnOk};
+ghost use Rattle.std.specs.List.{flat_map};
+ghost use Rattle.std.specs.Fmt.{decimal};
+ghost use Rattle.vrp_cli.specs.Texts.{cost_line, fault_text, plan_fault_words, refused_plan_text};
+
+use model_text::{LineWriter, TextFault};
+use path_graph::NoMemory;
+use route_model::Verdict;
+use std::alloc::Global;
+
+/// Writes a line of a word and a cost.
+pub(crate) fn write_cost(text: &mut LineWriter, word: &[u8], cost: i64) -> Result<(), NoMemory>
+    ensures { OnOk result (text.new ≡ text.old ++ cost_line word.now cost) }
+{
+    text.first(word)?;
+    text.number(cost)?;
+    text.end_line()
+}
+
+/// `refused PART LINE NUMBER KIND`
+pub(crate) fn fault_line(
+    alloc: Global,
+    part: &[u8],
+    fault: TextFault,
+) -> Result<LineWriter, NoMemory>
+    ensures { IfOk result (λ text. text ≡ fault_text part.now fault) }
+{
+    let mut text = LineWriter::new(alloc);
+    text.first(b"refused")?;
+    text.word(part)?;
+    text.number(fault.line)?;
+    text.number(fault.kind.number())?;
+    text.word(fault.kind.name().as_bytes())?;
+    text.end_line()?;
+    Ok(text)
+}
+
+/// `refused plan`, then the first fault of a plan.
+pub(crate) fn plan_fault_line(alloc: Global, verdict: Verdict) -> Result<LineWriter, NoMemory>
+    ensures { IfOk result (λ text. text ≡ refused_plan_text verdict) }
+{
+    let mut text = LineWriter::new(alloc);
+    text.first(b"refused")?;
+    text.word(b"plan")?;
+    write_plan_fault(&mut text, verdict)?;
+    text.end_line()?;
+    Ok(text)
+}
+
+fn write_plan_fault(text: &mut LineWriter, verdict: Verdict) -> Result<(), NoMemory>
+    ensures { OnOk result (text.new
+        ≡ text.old ++ flat_map (λ word. 32 ∷ word) (plan_fault_words verdict)) }
+{
+    match verdict {
+        Verdict::Fine { .. } => Ok(()),
+        Verdict::NotWalk(place) => write_place(text, b"walk", place),
+        Verdict::Count(graph) => write_place(text, b"count", graph),
+        Verdict::Packing(set) => write_place(text, b"packing", u32::from(set)),
+        Verdict::VarBox(var) => write_place(text, b"variable", var),
+        Verdict::RowBox(row) => write_place(text, b"row", row),
+    }
+}
+
+/// Writes a word and a number.
+fn write_place(text: &mut LineWriter, word: &[u8], place: u32) -> Result<(), NoMemory>
+    ensures { OnOk result (text.new
+        ≡ text.old ++ flat_map (λ word. 32 ∷ word) (word.now ∷ decimal place ∷ [])) }
+{
+    text.word(word)?;
+    text.number(place)
+}

@@ -1,0 +1,39 @@
+//! Words that are not taken.
+
+use crate::running::answers;
+use std::test::Fail;
+use test_models::texts;
+
+#[test]
+fn refused_words(rt: HostRuntime) -> Result<(), Fail> {
+    for words in [
+        "",
+        "solve x",
+        "print x",
+        "eval x",
+        "print print",
+        "print eval",
+        "Solve",
+        "Print",
+        "Eval",
+        "solv",
+        "prints",
+        "evaluate",
+        "help",
+        "--",
+        "-- print",
+        "print --",
+        "solve --labels 5",
+    ] {
+        answers(
+            &rt,
+            rt.alloc(),
+            words,
+            texts::SETS.as_bytes(),
+            2,
+            b"refused words\n",
+            words,
+        )?;
+    }
+    Ok(())
+}
