@@ -1,6 +1,7 @@
 //! The search on the models of blocks, and what is expected of it.
 
 use model_text::{LineWriter, read_model};
+use path_graph::NoMemory;
 use route_model::{Model, Verdict, judge};
 use std::alloc::Global;
 use std::process::Abort;
@@ -8,22 +9,22 @@ use std::test::Fail;
 use test_models::blocks::block_of;
 use vrp_cli::{Best, least_plan};
 
-/// The text of an answer: `infeasible`, or `optimal` with the cost, and the path lines.
-fn answer_of(alloc: Global, best: &Option<Best>) -> Result<LineWriter, Fail> {
+/// The answer where there is no solution.
+fn infeasible(alloc: Global) -> Result<LineWriter, NoMemory> {
     let mut text = LineWriter::new(alloc);
-    match best {
-        None => {
-            text.first(b"infeasible")?;
-            text.end_line()?;
-        }
-        Some(best) => {
-            text.first(b"optimal")?;
-            text.number(best.cost)?;
-            text.end_line()?;
-            for path in best.plan.paths.as_slice() {
-                text.path(path)?;
-            }
-        }
+    text.first(b"infeasible")?;
+    text.end_line()?;
+    Ok(text)
+}
+
+/// The answer of a least plan: its cost, and its path lines.
+fn optimal(alloc: Global, best: &Best) -> Result<LineWriter, NoMemory> {
+    let mut text = LineWriter::new(alloc);
+    text.first(b"optimal")?;
+    text.number(best.cost)?;
+    text.end_line()?;
+    for path in best.plan.paths.as_slice() {
+        text.path(path)?;
     }
     Ok(text)
 }
@@ -36,20 +37,14 @@ fn short_model(alloc: Global, text: &[u8]) -> Result<Model, Fail> {
     Ok(read_model(alloc, text)?)
 }
 
-/// Whether a plan that was found is a solution of its cost. No plan is fine.
-fn is_fine(model: &Model, best: &Option<Best>) -> bool {
-    match best {
-        None => true,
-        Some(best) => judge(model, &best.plan) == Verdict::Fine { cost: best.cost },
-    }
-}
-
 /// Searches a model: the answer, and whether its plan is a solution of its cost.
 fn searched(alloc: Global, text: &[u8]) -> Result<(LineWriter, bool), Fail> {
     let model = short_model(alloc, text)?;
-    let best = least_plan(alloc, &model)?;
-    let fine = is_fine(&model, &best);
-    Ok((answer_of(alloc, &best)?, fine))
+    let Some(best) = least_plan(alloc, &model)? else {
+        return Ok((infeasible(alloc)?, true));
+    };
+    let fine = judge(&model, &best.plan) == Verdict::Fine { cost: best.cost };
+    Ok((optimal(alloc, &best)?, fine))
 }
 
 /// Whether an answer is one that is said: the same lines, or where that ends in ` by any`, the same first line.
