@@ -143,38 +143,64 @@ fn free_cycles(rt: HostRuntime) -> Result<(), Fail> {
     Ok(())
 }
 
+/// The rank of a vertex, where it is there.
+fn rank_of(g: &Graph, vertex: u32) -> Option<u32> {
+    if vertex < g.vertex_count() {
+        Some(g.rank(vertex))
+    } else {
+        None
+    }
+}
+
+/// The arcs out of a vertex.
+fn arcs_out(alloc: Global, g: &Graph, vertex: u32) -> Result<Vec<u32>, Fail> {
+    let mut arcs = Vec::new(alloc);
+    if vertex < g.vertex_count() {
+        for k in 0..g.out_count(vertex) {
+            arcs.push(g.out_arc(vertex, k))?;
+        }
+    }
+    Ok(arcs)
+}
+
+/// The arcs into a vertex.
+fn arcs_into(alloc: Global, g: &Graph, vertex: u32) -> Result<Vec<u32>, Fail> {
+    let mut arcs = Vec::new(alloc);
+    if vertex < g.vertex_count() {
+        for k in 0..g.in_count(vertex) {
+            arcs.push(g.in_arc(vertex, k))?;
+        }
+    }
+    Ok(arcs)
+}
+
+/// The level at the source.
+fn source_level(g: &Graph) -> i64 {
+    level(g, g.ends().source, &root_values(g))
+}
+
+/// The graph of four arcs, of which that from vertex 0 to vertex 2 alone consumes.
+fn ranked(alloc: Global) -> Result<Graph, Fail> {
+    let arcs = [(0, 1, 0, 0), (0, 2, 1, 0), (1, 2, 0, 0), (2, 3, 0, 0)];
+    Ok(graph(alloc, 1, 4, 2, arcs.as_slice())??)
+}
+
 #[test]
 fn ranks_and_arcs(rt: HostRuntime) -> Result<(), Fail> {
-    let arcs = [(0, 1, 0, 0), (0, 2, 1, 0), (1, 2, 0, 0), (2, 3, 0, 0)];
-    let g = graph(rt.alloc(), 1, 4, 2, arcs.as_slice())??;
+    let g = ranked(rt.alloc())?;
     for (vertex, rank, out, into) in [
         (0, 0, [0, 1].as_slice(), [].as_slice()),
         (1, 1, [2].as_slice(), [0].as_slice()),
         (2, 2, [3].as_slice(), [1, 2].as_slice()),
         (3, 3, [].as_slice(), [3].as_slice()),
     ] {
-        if vertex >= g.vertex_count() {
-            return Err(Fail::new("a vertex is missing"));
-        }
-        assert_eq!(rt; g.rank(vertex), rank, "rank of {vertex}");
-        assert_eq!(rt; g.out_count(vertex) as usize, out.len(), "out of {vertex}");
-        assert_eq!(rt; g.in_count(vertex) as usize, into.len(), "into {vertex}");
-        for k in 0..g.out_count(vertex) {
-            assert_eq!(rt;
-                Some(&g.out_arc(vertex, k)),
-                out.get(k as usize),
-                "out of {vertex}"
-            );
-        }
-        for k in 0..g.in_count(vertex) {
-            assert_eq!(rt;
-                Some(&g.in_arc(vertex, k)),
-                into.get(k as usize),
-                "into {vertex}"
-            );
-        }
+        assert_eq!(rt; rank_of(&g, vertex), Some(rank), "rank of {vertex}");
+        let found = arcs_out(rt.alloc(), &g, vertex)?;
+        assert_eq!(rt; found.as_slice(), out, "out of {vertex}");
+        let found = arcs_into(rt.alloc(), &g, vertex)?;
+        assert_eq!(rt; found.as_slice(), into, "into {vertex}");
     }
-    assert_eq!(rt; level(&g, g.ends().source, &root_values(&g)), 0);
+    assert_eq!(rt; source_level(&g), 0);
     Ok(())
 }
 
@@ -210,18 +236,45 @@ fn backward(g: &Graph, arcs: &[u32], start: u32) -> Option<Values>
     if place == start { Some(value) } else { None }
 }
 
+/// The four-vertex graph with all windows 0..high.
+fn four(alloc: Global, high: i32) -> Result<Graph, Fail> {
+    Ok(graph(alloc, 1, 4, high, FOUR)??)
+}
+
+/// The value of the rest, given by its last arc first, and 1 where it joins the first arcs over the arc, 0 where not.
+/// What is refused is left out.
+fn joined(
+    alloc: Global,
+    g: &Graph,
+    first: &[u32],
+    arc: u32,
+    rest: &[u32],
+) -> Result<Vec<i32>, Fail> {
+    if arc >= g.arc_count() {
+        return Err(Fail::new("an arc is missing"));
+    }
+    let mut found = Vec::new(alloc);
+    let Some(back) = backward(g, rest, g.arc(arc).head) else {
+        return Ok(found);
+    };
+    found.push(back.at[0])?;
+    if let Some(front) = forward(g, first, g.arc(arc).tail) {
+        found.push(i32::from(joins(g, &front, arc, &back)))?;
+    }
+    Ok(found)
+}
+
 #[test]
 fn rests_and_joins(rt: HostRuntime) -> Result<(), Fail> {
-    // The rest is given by its last arc first.
-    for (name, high, first, arc, rest, value, joined) in [
+    // The high end, the first arcs, the arc, the rest by its last arc first.
+    for (name, high, first, arc, rest, expected) in [
         (
             "from the end over 5",
             2,
             [0].as_slice(),
             2,
             [5].as_slice(),
-            Some(2),
-            Some(true),
+            [2, 1].as_slice(),
         ),
         (
             "from a narrow end over 4",
@@ -229,8 +282,7 @@ fn rests_and_joins(rt: HostRuntime) -> Result<(), Fail> {
             [].as_slice(),
             0,
             [4].as_slice(),
-            Some(1),
-            Some(true),
+            [1, 1].as_slice(),
         ),
         (
             "over 2 and 5",
@@ -238,8 +290,7 @@ fn rests_and_joins(rt: HostRuntime) -> Result<(), Fail> {
             [].as_slice(),
             0,
             [5, 2].as_slice(),
-            Some(1),
-            Some(true),
+            [1, 1].as_slice(),
         ),
         (
             "no room for both",
@@ -247,8 +298,7 @@ fn rests_and_joins(rt: HostRuntime) -> Result<(), Fail> {
             [].as_slice(),
             0,
             [5, 2].as_slice(),
-            Some(0),
-            Some(false),
+            [0, 0].as_slice(),
         ),
         (
             "a rest that is refused",
@@ -256,22 +306,12 @@ fn rests_and_joins(rt: HostRuntime) -> Result<(), Fail> {
             [].as_slice(),
             1,
             [5, 2, 3].as_slice(),
-            None,
-            None,
+            [].as_slice(),
         ),
     ] {
-        let g = graph(rt.alloc(), 1, 4, high, FOUR)??;
-        if arc >= g.arc_count() {
-            return Err(Fail::new("an arc is missing"));
-        }
-        let back = backward(&g, rest, g.arc(arc).head);
-        assert_eq!(rt; back.map(|values| values.at[0]), value, "{name}");
-        let front = forward(&g, first, g.arc(arc).tail);
-        let found = match (front, back) {
-            (Some(front), Some(back)) => Some(joins(&g, &front, arc, &back)),
-            _ => None,
-        };
-        assert_eq!(rt; found, joined, "{name}");
+        let g = four(rt.alloc(), high)?;
+        let found = joined(rt.alloc(), &g, first, arc, rest)?;
+        assert_eq!(rt; found.as_slice(), expected, "{name}");
     }
     Ok(())
 }

@@ -5,10 +5,11 @@ ghost use Rattle.route_model.specs.Verdicts.{IsCounted};
 
 use model_text::read_model;
 use path_graph::{List, is_walk};
-use route_model::{Plan, Taken, Verdict, box_costs, judge};
+use route_model::{Model, Plan, Taken, Verdict, box_costs, judge};
 use std::alloc::{AllocError, Global};
+use std::process::Abort;
 use std::test::Fail;
-use test_models::blocks::{block_of, numbers};
+use test_models::blocks::{Block, block_of, numbers};
 use test_models::texts;
 
 /// Models, each with plans of one path: its graph, its count and its arcs, what is found, and why.
@@ -164,29 +165,63 @@ fn words_of(verdict: Verdict) -> (&'static str, i64) {
     }
 }
 
+/// What is found of the plan of a graph, a count and arcs, in words.
+fn found_of(alloc: Global, model: &Model, path: &str) -> Result<(&'static str, i64), Fail> {
+    let plan = plan_of(alloc, path)?;
+    Ok(words_of(judge(model, &plan)))
+}
+
+/// What is said of a plan, as `walk 0`.
+fn said_of(text: &str) -> Result<(&str, i64), Fail> {
+    let (word, number) = text.split_once(' ').ok_or("a lone word")?;
+    Ok((word, number.parse::<i64>()?))
+}
+
+/// The first two cells of a row of three.
+fn cells_of(row: &str) -> Result<(&str, &str), Fail> {
+    let (cells, _) = row.rsplit_once(" | ").ok_or("a row without a name")?;
+    Ok(cells.split_once(" | ").ok_or("a row without a verdict")?)
+}
+
+/// Compares what is found of the plan of a row.
+fn compare<R: Abort>(rt: &R, alloc: Global, model: &Model, row: &str) -> Result<(), Fail> {
+    let (path, said) = cells_of(row)?;
+    let (word, number) = said_of(said)?;
+    let (found, found_number) = found_of(alloc, model, path)?;
+    assert_eq!(rt; found, word, "{row}");
+    assert_eq!(rt; found_number, number, "{row}");
+    Ok(())
+}
+
+/// Compares what is found of the plans of a block's rows.
+fn compare_all<R: Abort>(rt: &R, alloc: Global, block: &Block<'_>) -> Result<(), Fail> {
+    let model = short_model(alloc, block.model.as_slice())?;
+    for row in block.said.lines() {
+        compare(rt, alloc, &model, row)?;
+    }
+    Ok(())
+}
+
+/// The model of a text that is not too long.
+fn short_model(alloc: Global, text: &[u8]) -> Result<Model, Fail> {
+    if text.len() >= 10_000 {
+        return Err(Fail::new("a text is too long"));
+    }
+    Ok(read_model(alloc, text)?)
+}
+
 #[test]
 fn verdicts(rt: HostRuntime) -> Result<(), Fail> {
     for text in VERDICTS.split("\n\n") {
         let block = block_of(rt.alloc(), text)?;
-        assert!(rt; block.model.len() < 10_000, "{text}");
-        let model = read_model(rt.alloc(), block.model.as_slice())?;
-        for row in block.said.lines() {
-            let (path, rest) = row.split_once(" | ").ok_or("a row without a verdict")?;
-            let (verdict, _) = rest.split_once(" | ").ok_or("a row without a name")?;
-            let (word, number) = verdict.split_once(' ').ok_or("a lone word")?;
-            let plan = plan_of(rt.alloc(), path)?;
-            let (found, found_number) = words_of(judge(&model, &plan));
-            assert_eq!(rt; found, word, "{row}");
-            assert_eq!(rt; found_number, number.parse::<i64>()?, "{row}");
-        }
+        compare_all(&rt, rt.alloc(), &block)?;
     }
     Ok(())
 }
 
 #[test]
 fn costs_and_walks(rt: HostRuntime) -> Result<(), Fail> {
-    assert!(rt; texts::PAYS.len() < 1_000);
-    let model = read_model(rt.alloc(), texts::PAYS.as_bytes())?;
+    let model = short_model(rt.alloc(), texts::PAYS.as_bytes())?;
     // Between nine times -1 and once -4, and nothing; one more than that.
     assert_eq!(rt; box_costs(&model), (-13, 1));
     assert_eq!(rt; model.graphs.len(), 1);

@@ -81,8 +81,10 @@ pub fn joined(alloc: Global, row: &str) -> Result<Vec<u8>, Fail> {
             Some((times, piece)) => (times.parse::<u32>()?, piece),
             None => (1, piece),
         };
+        let mut bytes = Vec::new(alloc);
+        put_piece(&mut bytes, piece)?;
         for _ in 0..times {
-            put_piece(&mut text, piece)?;
+            text.extend_from_slice(bytes.as_slice())?;
         }
     }
     Ok(text)

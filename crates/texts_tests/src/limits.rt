@@ -2,21 +2,28 @@
 //! each once or as often as it says, in which `/` stands for LF, and what is expected.
 
 use crate::outcomes::{prints, refuses};
+use std::alloc::Global;
+use std::process::Abort;
 use std::test::Fail;
 use test_models::edits::joined;
 
-/// Texts with a fault.
-const BEYOND: &str = "vrpmodel 1/ | 30001 times var 0 1 0/ | end/ | 30002 TooMany
+/// Texts with more variables than there may be, or as many and another fault behind them.
+const VARIABLES: &str = "vrpmodel 1/ | 30001 times var 0 1 0/ | end/ | 30002 TooMany
 vrpmodel 1/ | 30000 times var 0 1 0/ | var/end/ | 30002 TooMany
 vrpmodel 1/ | 30000 times var 0 1 0/ | var 2 1 x/end/ | 30002 TooMany
 vrpmodel 1/ | 30000 times var 0 1 0/ | v/end/ | 30002 Word
 vrpmodel 1/ | 30000 times var 0 1 0/ | row * */var 0 1 0/end/ | 30003 Order
 vrpmodel 1/ | 30000 times var 0 1 0/ | row * * 30000 1/end/ | 30002 Unknown
-vrpmodel 1/ | 5001 times row * */ | end/ | 5002 TooMany
-vrpmodel 1/ | 5000 times row * */ | row x/end/ | 5002 TooMany
-vrpmodel 1/ | 5000 times row * */ | row 2 1/end/ | 5002 TooMany
+";
+
+/// The same of rows.
+const ROWS: &str = "vrpmodel 1/ | 5000 times row * */ | row x/end/ | 5002 TooMany
 vrpmodel 1/ | 5000 times row * */ | sets 0/row x/end/ | 5003 Order
-vrpmodel 1/ | 65 times graph 2 0 1 0 0 1 0/vertex - 0 0/vertex - 0 0/ | end/ | 194 TooMany
+";
+
+/// Other texts with a fault.
+const BEYOND: &str =
+    "vrpmodel 1/ | 65 times graph 2 0 1 0 0 1 0/vertex - 0 0/vertex - 0 0/ | end/ | 194 TooMany
 vrpmodel 1/ | 64 times graph 2 0 1 0 0 1 0/vertex - 0 0/vertex - 0 0/ | graph/end/ | 194 TooMany
 vrpmodel 1/ | 64 times graph 2 0 1 0 0 1 0/vertex - 0 0/vertex - 0 0/ | graph 1 x/end/ | 194 TooMany
 vrpmodel 1/ | 63 times graph 2 0 1 0 0 1 0/vertex - 0 0/vertex - 0 0/ | graph 2 0 1 0 0 1 0/vertex - 0 0/graph/ | 193 Order
@@ -57,14 +64,29 @@ vrpmodel 1/ | 70000 times # a comment/ | end/ | vrpmodel 1/end/
 vrpmodel  | 70000 times \t\r | 1/end/ | vrpmodel 1/end/
 ";
 
-#[test]
-fn beyond_the_limits(rt: HostRuntime) -> Result<(), Fail> {
-    for row in BEYOND.lines() {
+/// Asserts the faults of the rows.
+fn refuses_all<R: Abort>(rt: &R, alloc: Global, rows: &str) -> Result<(), Fail> {
+    for row in rows.lines() {
         let (pieces, expected) = row.rsplit_once(" | ").ok_or("a row without a fault")?;
-        let text = joined(rt.alloc(), pieces)?;
-        refuses(&rt, rt.alloc(), text.as_slice(), expected, row)?;
+        let text = joined(alloc, pieces)?;
+        refuses(rt, alloc, text.as_slice(), expected, row)?;
     }
     Ok(())
+}
+
+#[test]
+fn too_many_variables(rt: HostRuntime) -> Result<(), Fail> {
+    refuses_all(&rt, rt.alloc(), VARIABLES)
+}
+
+#[test]
+fn too_many_rows(rt: HostRuntime) -> Result<(), Fail> {
+    refuses_all(&rt, rt.alloc(), ROWS)
+}
+
+#[test]
+fn beyond_the_limits(rt: HostRuntime) -> Result<(), Fail> {
+    refuses_all(&rt, rt.alloc(), BEYOND)
 }
 
 #[test]
