@@ -176,7 +176,9 @@ fn arcs_into(alloc: Global, g: &Graph, vertex: u32) -> Result<Vec<u32>, Fail> {
 
 /// The level at the source.
 fn source_level(g: &Graph) -> i64 {
-    level(g, g.ends().source, &root_values(g))
+    let value = root_values(g);
+    let source = g.ends().source;
+    level(g, source, &value)
 }
 
 /// The graph of four arcs, of which that from vertex 0 to vertex 2 alone consumes.
