@@ -90,7 +90,7 @@ decimal_once m n small few e =
     sym (decimal_is_IsNumeral_wide m small).1 ∙ (ap (λ (ds : List ℕ). base_value 10 ds) e ∙ (decimal_is_IsNumeral_wide n few).1)
 
 -- so are all numbers, if one of them is within this bound
-decimal_same : (m n : ℕ) → n < 10 ^ 40 → decimal m ≡ decimal n → m ≡ n
+pub decimal_same : (m n : ℕ) → n < 10 ^ 40 → decimal m ≡ decimal n → m ≡ n
 decimal_same m n few e = by_size (nat_lt m (10 ^ 60)) refl
   where
     low : length (decimal n) ≤ 40
