@@ -6,6 +6,7 @@ use Rattle.std.proofs.lemmas.List.{length-map}
 use Rattle.std.proofs.lemmas.List.Elements.{All-nil, All-cons, All-tail}
 use Rattle.route_model.specs.declared.plan.Taken.{Taken}
 use Rattle.route_model.specs.declared.plan.Plan.{Plan}
+use Rattle.route_model.specs.Parts.{plan_with}
 use Rattle.route_model.specs.Verdicts.{IsCounted}
 use Rattle.vrp_lex.specs.Text.{lines_of, words_of}
 use Rattle.line_text.specs.Words.{Words, are_some_words}
@@ -30,7 +31,7 @@ few_lines (b ∷ bs) = by_test (b == 10) (few_lines bs)
     by_test true h = omega (arith, h)
     by_test false h = omega (arith, onto_few b (length bs) (lines_of bs) h)
 
-plan_lines_more : (paths : List Taken) → length (plan_lines (record { paths = paths })) ≡ length paths + 1
+plan_lines_more : (paths : List Taken) → length (plan_lines (plan_with paths)) ≡ length paths + 1
 plan_lines_more [] = refl
 plan_lines_more (p ∷ paths) = omega (arith, plan_lines_more paths)
 

@@ -7,6 +7,7 @@ use Rattle.std.proofs.lemmas.List.Elements.{All-nil, All-push, All-head, All-tai
 use Rattle.std.proofs.lemmas.List.Folds.{flat_map-map}
 use Rattle.route_model.specs.declared.plan.Taken.{Taken}
 use Rattle.route_model.specs.declared.plan.Plan.{Plan}
+use Rattle.route_model.specs.Parts.{plan_with}
 use Rattle.route_model.specs.Quantities.{paths_of, is_of}
 use Rattle.route_model.specs.Tidy.{AreFew}
 use Rattle.line_text.specs.declared.fault.TextFault.{TextFault}
@@ -57,14 +58,11 @@ says : (items : List PathItem) (e : PlanDraft) → Runs path_grammar May path_gr
 says items e runs ended = let said = runs_said steps items e runs in (rw ended at said.0, said.1)
 
 -- the lines of a plan are read one after the other
-abbrev plan_of : List Taken → Plan
-plan_of paths = record { paths = paths }
-
-room_for : (before : List Taken) (t : Taken) (after : List Taken) → AreFew (plan_of (before ++ t ∷ after)) → HasRoom (plan_of before) t
+room_for : (before : List Taken) (t : Taken) (after : List Taken) → AreFew (plan_with (before ++ t ∷ after)) → HasRoom (plan_with before) t
 room_for before t after few =
-    let all : paths_of (plan_of ((before ++ t ∷ []) ++ after)) t.graph ≤ 4096 = subst (λ ts. paths_of (plan_of ts) t.graph ≤ 4096) (sym (append_assoc before (t ∷ []) after)) (few t.graph) in
+    let all : paths_of (plan_with ((before ++ t ∷ []) ++ after)) t.graph ≤ 4096 = subst (λ ts. paths_of (plan_with ts) t.graph ≤ 4096) (sym (append_assoc before (t ∷ []) after)) (few t.graph) in
     let split = sum_by-append (λ (u : Taken). u.count * is_of t.graph u.graph u.arcs) (before ++ t ∷ []) after in
-    let own = paths_of-same (plan_of before) t in
+    let own = paths_of-same (plan_with before) t in
     omega (arith, all, split, own)
 
 All-at_seam : (front : List Taken) (t : Taken) (back : List Taken) → All PathFits (front ++ t ∷ back) → PathFits t
@@ -73,12 +71,12 @@ All-at_seam (u ∷ front) t back all = All-at_seam front t back (All-tail PathFi
 
 -- going, with these paths told so far
 abbrev HasTold : List Taken → PlanDraft → Type 0
-HasTold front d = (d.ended ≡ false) × (d.plan ≡ plan_of front)
+HasTold front d = (d.ended ≡ false) × (d.plan ≡ plan_with front)
 
 next_path : (plan : Plan) → PlanFits plan → (front : List Taken) (t : Taken) (back : List Taken) (d : PlanDraft) → front ++ t ∷ back ≡ plan.paths → HasTold front d → (d.ended ≡ false) × May d (Path t) × ((n : ℕ) → HasTold (front ++ t ∷ []) (put d (Path t)))
 next_path plan fits front t back d is told =
     let path = All-at_seam front t back (subst (All PathFits) (sym is) fits.each) in
-    let room = room_for front t back (subst (λ ts. AreFew (plan_of ts)) (sym is) fits.few) in
+    let room = room_for front t back (subst (λ ts. AreFew (plan_with ts)) (sym is) fits.few) in
     (told.0, (path, subst (λ p. HasRoom p t) (sym told.1) room), λ n. (told.0, ap (λ p. with_path p t) told.1))
 
 leads : (plan : Plan) (items : List PathItem) → SaysPlan plan items → Leads path_grammar May path_grammar.empty items (λ e. (e.ended ≡ true) × (e.plan ≡ plan))

@@ -4,8 +4,7 @@ use Rattle.std.specs.Prelude.{◌==◌, All, codes, if◌then◌else◌}
 use Rattle.std.specs.List.{flat_map, zip}
 use Rattle.std.specs.Fmt.{decimal}
 use Rattle.std.proofs.lemmas.Bool.Decides.{nat_tests}
-use Rattle.std.proofs.lemmas.List.Elements.{All-nil, All-cons, All-append, All-map, All-head, All-tail}
-use Rattle.route_model.specs.declared.plan.Plan.{Plan}
+use Rattle.std.proofs.lemmas.List.Elements.{All-nil, All-cons, All-append, All-head, All-tail}
 use Rattle.route_model.specs.Parts.{ModelParts}
 use Rattle.route_model.specs.Fit.{IsModel}
 use Rattle.path_graph.specs.Walk.{GraphParts}
@@ -19,8 +18,7 @@ use Rattle.model_text.specs.LineKinds.{version_words}
 use Rattle.model_text.specs.ModelText.{model_text}
 use Rattle.model_text.specs.ModelLines.{var_words, row_words, sets_words, graph_words, vertex_words, arc_words, graph_lines, model_lines}
 use Rattle.model_text.specs.Spelling.{IsSetsPart, Spells}
-use Rattle.model_text.specs.PathText.{PlanFits, SpellsPlan}
-use Rattle.model_text.specs.PrintedText.{IsPrintedModelText, HasOnePrintedText, PrintedModelLaw, PrintedAgainLaw, HasOnePrintedPathText, PrintedPlanLaw}
+use Rattle.model_text.specs.PrintedText.{IsPrintedModelText, PrintedModelLaw, PrintedAgainLaw, PrintedPlanLaw}
 use Rattle.model_text.proofs.PrintedTextLemmas.{printed_sets_part, printed_lines, model_text_is, printed_model, printed_spells, printed_version}
 use Rattle.model_text.proofs.SpellsLawLemmas.{spells_one}
 use Rattle.model_text.proofs.PlanLaws.{plan_text_spells, plan_text_printed, plan_text_only}

@@ -3,6 +3,7 @@ use Rattle.std.specs.Prelude.{◌≡◌, ℕ, ◌+◌, List, [], ◌∷◌, ◌+
 use Rattle.route_model.specs.declared.plan.Taken.{Taken}
 use Rattle.route_model.specs.declared.plan.Plan.{Plan}
 use Rattle.path_graph.specs.declared.limits.TheConstants.{MAX_PATHS}
+use Rattle.route_model.specs.Parts.{plan_with}
 use Rattle.route_model.specs.Quantities.{paths_of}
 use Rattle.line_text.specs.declared.fault.Kind.TheVariants as fault
 use Rattle.line_text.specs.declared.fault.TextFault.{TextFault}
@@ -52,7 +53,7 @@ end_rule = record { name = codes "end"; stands = λ _. true; full = λ _. false;
 
 -- the plan with one more path
 abbrev pub with_path : Plan → Taken → Plan
-with_path plan path = record { paths = plan.paths ++ path ∷ [] }
+with_path plan path = plan_with (plan.paths ++ path ∷ [])
 
 abbrev pub put : PlanDraft → PathItem → PlanDraft
 put d (Path path) = record d { plan = with_path d.plan path }
@@ -61,7 +62,7 @@ put d End = record d { ended = true }
 abbrev pub path_grammar : Grammar PlanDraft PathItem
 path_grammar =
     record {
-      empty = record { ended = false; plan = record { paths = [] } };
+      empty = record { ended = false; plan = plan_with [] };
       is_ended = λ d. d.ended;
       item = by_first_word (path_rule ∷ end_rule ∷ []);
       put = λ d number item. put d item;

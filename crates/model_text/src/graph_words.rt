@@ -165,11 +165,7 @@ impl ItemReader for MappedVars {
         false
     }
 
-    fn take<'a>(
-        &mut self,
-        before: &[u32],
-        words: &'a [u8],
-    ) -> Result<(u32, &'a [u8]), LineFault> {
+    fn take<'a>(&mut self, before: &[u32], words: &'a [u8]) -> Result<(u32, &'a [u8]), LineFault> {
         mapped_var(words, self.vars, before)
     }
 }

@@ -3,9 +3,9 @@ ghost use Rattle.route_model.specs.Parts.{ModelParts};
 ghost use Rattle.model_text.specs.Spelling.{Spells};
 ghost use Rattle.model_text.specs.Refusal.{IsRefusal};
 
+use crate::draft_reader::read_draft;
 use crate::model_build::model_of;
 use line_text::ReadError;
-use crate::draft_reader::read_draft;
 use route_model::Model;
 use std::alloc::Global;
 

@@ -7,5 +7,4 @@ pub fn printed_text_laws()
     ensures models { PrintedModelLaw }
     ensures again { PrintedAgainLaw }
     ensures plans { PrintedPlanLaw }
-{
-}
+{}
