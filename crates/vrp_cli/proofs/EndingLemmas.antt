@@ -7,7 +7,7 @@ use Rattle.vrp_io.specs.Bytes.{TookAll}
 use Rattle.route_model.specs.declared.plan.Plan.{Plan}
 use Rattle.route_model.specs.Parts.{ModelParts}
 use Rattle.route_model.specs.Quantities.{cost_of}
-use Rattle.model_text.specs.declared.kind.TextFault.{TextFault}
+use Rattle.line_text.specs.declared.fault.TextFault.{TextFault}
 use Rattle.model_text.specs.ModelEnd.{model_end}
 use Rattle.model_text.specs.Spelling.{Spells}
 use Rattle.model_text.specs.Refusal.{IsRefusedFor}

@@ -5,7 +5,7 @@ use Rattle.route_model.specs.declared.plan.Plan.{Plan}
 use Rattle.route_model.specs.declared.plan.Verdict.{Verdict}
 use Rattle.route_model.specs.Parts.{ModelParts}
 use Rattle.route_model.specs.Solution.{IsSolution, HasNoSolution}
-use Rattle.model_text.specs.declared.kind.TextFault.{TextFault}
+use Rattle.line_text.specs.declared.fault.TextFault.{TextFault}
 use Rattle.model_text.specs.Spelling.{Spells, SpellsNothing}
 use Rattle.model_text.specs.Refusal.{IsRefusedFor}
 use Rattle.model_text.specs.PathText.{SpellsPlan, SpellsNoPlan}

@@ -10,7 +10,7 @@ use Rattle.route_model.specs.Quantities.{cost_of}
 use Rattle.route_model.specs.Solution.{IsSolution, IsLeast, HasNoSolution}
 use Rattle.route_model.specs.Verdicts.{IsVerdict}
 use Rattle.route_model.specs.Tidy.{IsTidy}
-use Rattle.model_text.specs.declared.kind.TextFault.{TextFault}
+use Rattle.line_text.specs.declared.fault.TextFault.{TextFault}
 use Rattle.model_text.specs.ModelText.{model_text}
 use Rattle.model_text.specs.Spelling.{Spells}
 use Rattle.model_text.specs.Refusal.{IsRefusedFor}

@@ -5,9 +5,10 @@ use Rattle.std.specs.Fmt.{decimal, signed_decimal}
 use Rattle.route_model.specs.declared.plan.Plan.{Plan}
 use Rattle.route_model.specs.declared.plan.Verdict.{Verdict}
 use Rattle.route_model.specs.declared.plan.Verdict.TheVariants.{Fine, NotWalk, Count, Packing, VarBox, RowBox}
-use Rattle.model_text.specs.declared.kind.TextFault.{TextFault}
-use Rattle.model_text.specs.Kinds.{kind_number, kind_name}
-use Rattle.model_text.specs.Lines.{line, path_line}
+use Rattle.line_text.specs.declared.fault.TextFault.{TextFault}
+use Rattle.line_text.specs.Faults.{kind_number, kind_name}
+use Rattle.line_text.specs.Spelling.{line}
+use Rattle.model_text.specs.PathText.{path_line}
 
 -- a word and a cost
 abbrev pub cost_line : List ℕ → ℤ → List ℕ

@@ -1,6 +1,6 @@
 ghost use Rattle.std.specs.Prelude.{◌≡◌, ◌++◌, ◌<◌, ◌^◌, ◌-◌, length, IfOk, OnOk};
 ghost use Rattle.std.specs.List.{flat_map};
-ghost use Rattle.model_text.specs.Lines.{path_line};
+ghost use Rattle.model_text.specs.PathText.{path_line};
 ghost use Rattle.vrp_cli.specs.Texts.{optimal_text};
 ghost use Rattle.vrp_cli.specs.Answer.{AnswersInput};
 
@@ -8,7 +8,7 @@ use crate::answer::Answer;
 use crate::command::Command;
 use crate::search::least_plan;
 use crate::texts::{fault_line, write_cost};
-use model_text::{LineWriter, ReadError, read_model};
+use model_text::{LineWriter, ReadError, print_path, read_model};
 use path_graph::NoMemory;
 use route_model::{Plan, Taken};
 use std::alloc::Global;
@@ -45,7 +45,7 @@ fn write_paths(text: &mut LineWriter, paths: &[Taken]) -> Result<(), NoMemory>
     ensures { OnOk result (text.new ≡ text.old ++ flat_map path_line paths.now) }
 {
     for path in paths {
-        text.path(path)?;
+        print_path(text, path)?;
     }
     Ok(())
 }
