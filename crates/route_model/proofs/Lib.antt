@@ -1,3 +1,5 @@
 pub mod Bounds
 pub mod TidyLemmas
 pub mod SolutionLemmas
+pub mod PlaceLemmas
+pub mod ShutLemmas
