@@ -12,7 +12,7 @@ use Rattle.route_model.specs.declared.places.Span.{Span}
 use Rattle.route_model.specs.declared.places.Split.{Split}
 use Rattle.route_model.specs.declared.places.Spot.{Spot}
 use Rattle.route_model.specs.declared.plan.Taken.{Taken}
-use Rattle.route_model.specs.First.{EachBelow}
+use Rattle.path_graph.specs.First.{EachBelow}
 use Rattle.route_model.specs.Parts.{ModelParts, graph_in, taken_at, var_at}
 use Rattle.route_model.specs.PlaceParts.{DropLaw, HasBox, HasMarks, KeepsLaw, NamedArc, PartsLaw, SplitFits, SplitLaw, box_in, dropping, high_part, high_place, is_named, low_part, low_place, with_box}
 use Rattle.route_model.specs.Places.{IsInSpan, IsPartOf, SolvesAt, SpotFits, UsesNone, is_dropped, marks_of, path_span, span_at, var_span}

@@ -8,7 +8,7 @@ use Rattle.route_model.specs.declared.places.Boxes.{Boxes}
 use Rattle.route_model.specs.declared.places.Span.{Span}
 use Rattle.route_model.specs.declared.places.Spot.{Spot}
 use Rattle.route_model.specs.declared.plan.Taken.{Taken}
-use Rattle.route_model.specs.First.{EachBelow}
+use Rattle.path_graph.specs.First.{EachBelow}
 use Rattle.route_model.specs.Parts.{ModelParts, graph_in, mapped_vars, taken_at, var_at}
 use Rattle.route_model.specs.Quantities.{paths_of, value_of}
 use Rattle.route_model.specs.Solution.{IsSolution}
