@@ -1,5 +1,6 @@
 pub mod Bounds
 pub mod TidyLemmas
 pub mod SolutionLemmas
+pub mod KnownLemmas
 pub mod PlaceLemmas
 pub mod ShutLemmas

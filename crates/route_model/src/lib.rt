@@ -6,6 +6,7 @@ mod build;
 mod coefs;
 mod costs;
 mod fit;
+mod limits;
 mod multipliers;
 mod parts;
 mod places;
@@ -17,9 +18,13 @@ mod terms;
 mod tidying;
 pub mod wide;
 
-pub use arithmetic::{added, product, product_ends};
+pub use arithmetic::{product, product_ends, sum_of};
 pub use costs::box_costs;
 pub use fit::{model_fits, path_total};
+pub use limits::{
+    MAX_ALL_ARCS, MAX_COEF, MAX_COEF_SUM, MAX_COST, MAX_COST_RANGE, MAX_GRAPHS, MAX_MAPPED,
+    MAX_ROWS, MAX_SIDE, MAX_TERMS, MAX_VALUE, MAX_VARS,
+};
 pub use multipliers::{Mult, MultFault, Priced, Quantity};
 pub use parts::{BuildFault, Model, Row, RowTerm, Var};
 pub use places::{Boxes, Span, Split, Spot};
