@@ -11,7 +11,7 @@ use Rattle.rank1_cuts.specs.declared.cut.Cut.{Cut}
 use Rattle.rank1_cuts.specs.Fit.{CutFits, right_side_of}
 use Rattle.rank1_cuts.specs.Visits.{coef_of}
 use Rattle.route_model.specs.declared.parts.RowTerm.{RowTerm}
-use Rattle.route_model.specs.declared.plan.Taken.{Taken}
+use Rattle.route_model.specs.declared.plan.Plan.{Plan}
 use Rattle.path_graph.specs.First.{EachBelow}
 use Rattle.route_model.specs.Fit.{ModelFits}
 use Rattle.route_model.specs.Parts.{ModelParts, graph_in, var_at, row_at, term_at}
@@ -32,18 +32,18 @@ use Rattle.multipliers.proofs.PlanSumLemmas.{plan_sum-scale, plan_sum-add, plan_
 use Rattle.multipliers.proofs.CutLemmas.{cut_kept}
 
 -- sums of multiples of quantities, as costs and rows are
-pub below_quantity : (a : ℕ → ℤ) (f : ℕ → ℕ → List ℕ → ℕ) (n : ℕ) (plan : List Taken) → sum_below n (λ j. a j *ℤ pos (quantity (f j) plan)) ≡ plan_sum (λ g arcs. sum_below n (λ j. a j *ℤ pos (f j g arcs))) plan
+pub below_quantity : (a : ℕ → ℤ) (f : ℕ → ℕ → List ℕ → ℕ) (n : ℕ) (plan : Plan) → sum_below n (λ j. a j *ℤ pos (quantity (f j) plan)) ≡ plan_sum (λ g arcs. sum_below n (λ j. a j *ℤ pos (f j g arcs))) plan
 below_quantity a f n plan =
     (λ i. sum_below n (λ j. a j *ℤ sym (plan_sum-pos (f j) plan) i)) ∙ plan_sum-below a (λ j g arcs. pos (f j g arcs)) n plan
 
-pub cost_of-is : (m : ModelParts) (plan : List Taken) → cost_of m plan ≡ plan_sum (cost_along m) plan
+pub cost_of-is : (m : ModelParts) (plan : Plan) → cost_of m plan ≡ plan_sum (cost_along m) plan
 cost_of-is m plan = below_quantity (λ j. (var_at m.vars j).cost) (λ j. uses_in m.maps j) (length m.vars) plan
 
-pub row_sum-is : (m : ModelParts) (terms : List RowTerm) (plan : List Taken) → row_sum m plan terms ≡ plan_sum (row_along m terms) plan
+pub row_sum-is : (m : ModelParts) (terms : List RowTerm) (plan : Plan) → row_sum m plan terms ≡ plan_sum (row_along m terms) plan
 row_sum-is m terms plan = below_quantity (λ k. (term_at terms k).coef) (λ k. uses_in m.maps (term_at terms k).var) (length terms) plan
 
 -- the cost of a plan is what the multipliers say of its quantities, and the reduced_cost costs of its walks
-pub scaled_cost : (m : ModelParts) (cuts : List Cut) (mult : Mult) (plan : List Taken)
+pub scaled_cost : (m : ModelParts) (cuts : List Cut) (mult : Mult) (plan : Plan)
     → scaled (cost_of m plan) ≡ weighted m cuts mult (λ q. amount_in m cuts q plan) +ℤ plan_sum (reduced_cost m cuts mult) plan
 scaled_cost m cuts mult plan =
     let had : ℕ → List ℕ → ℤ = λ g arcs. weighted m cuts mult (λ q. amount m cuts q g arcs) in
@@ -101,7 +101,7 @@ IsIn sides x = IsBetween sides.low sides.high x
 at_most : (n k : ℕ) → k ≤ n → IsIn (up_to n) (pos k)
 at_most n k h = (omega (arith, ints), omega (arith, ints))
 
-pub all_lie : (m : ModelParts) (cuts : List Cut) (boxes : Boxes) (plan : List Taken) → ModelFits m → All CutFits cuts → SolvesWithin m boxes plan
+pub all_lie : (m : ModelParts) (cuts : List Cut) (boxes : Boxes) (plan : Plan) → ModelFits m → All CutFits cuts → SolvesWithin m boxes plan
     → All (λ q. IsIn (box_at m cuts boxes q) (amount_in m cuts q plan)) (quantities m cuts)
 all_lie m cuts boxes plan fits cut_fits s =
     let box = box_at m cuts boxes in
@@ -115,7 +115,7 @@ all_lie m cuts boxes plan fits cut_fits s =
     (λ g l. counted (box (OfPaths g)) (is_of g) (s.paths g l))
 
 -- the terms and the reduced_cost costs are at most the cost
-pub weak_duality : (m : ModelParts) (cuts : List Cut) (boxes : Boxes) (mult : Mult) (plan : List Taken)
+pub weak_duality : (m : ModelParts) (cuts : List Cut) (boxes : Boxes) (mult : Mult) (plan : Plan)
     → ModelFits m → All CutFits cuts → SolvesWithin m boxes plan → AreDefined m cuts boxes mult
     → (base m cuts boxes mult +ℤ plan_sum (reduced_cost m cuts mult) plan) ≤ℤ scaled (cost_of m plan)
 weak_duality m cuts boxes mult plan fits cut_fits s defined =

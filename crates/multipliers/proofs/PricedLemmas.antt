@@ -11,18 +11,17 @@ use Rattle.path_graph.specs.Fit.{int_at}
 use Rattle.path_graph.proofs.SumLemmas.{sum_below-same, sum_below-add, sum_below-exchange, sum_below-pick, sum_below-scale, sum_below-scale_right, sum_below-swap, sum_below-zero, sum_over-add, sum_over-append, sum_over-range}
 use Rattle.path_graph.specs.Walk.{GraphParts, Leads, arc_at}
 use Rattle.rank1_cuts.specs.declared.cut.Cut.{Cut}
-use Rattle.rank1_cuts.specs.Solutions.{is_visit}
 use Rattle.route_model.specs.declared.parts.RowTerm.{RowTerm}
 use Rattle.route_model.specs.Fit.{Ascends, IsDeclared, ModelFits, TermFits}
 use Rattle.route_model.specs.Parts.{ModelParts, graph_in, mapped_vars, row_at, term_at, var_at}
-use Rattle.route_model.specs.Quantities.{enters, is_mapped, uses_in}
+use Rattle.route_model.specs.Quantities.{is_mapped, uses_in}
 use Rattle.route_model.specs.declared.multipliers.Mult.{Mult}
 use Rattle.route_model.specs.declared.multipliers.Quantity.{Quantity}
 use Rattle.route_model.specs.declared.multipliers.Quantity.TheVariants.{Var as OfVar, Row as OfRow, Set as OfSet, Cut as OfCut, Paths as OfPaths}
 use Rattle.multipliers.specs.Priced.{arc_cost, arcs_cost, coef_in, cuts_cost, reduced_unit, rows_worth, start_cost, visit_mult}
 use Rattle.multipliers.specs.Quantities.{amount, cost_along, mult_at, quantities, reduced_cost, row_along, scaled}
-use Rattle.path_graph.specs.Visits.{visit_over}
-use Rattle.multipliers.proofs.CutLemmas.{no_set_past, visit_is, visit_over-is}
+use Rattle.path_graph.specs.Visits.{is_visit, visit_count, visit_over, visits_along}
+use Rattle.multipliers.proofs.CutLemmas.{no_set_past}
 use Rattle.path_graph.proofs.IntLemmas.{add-mul_z, choice_times, mul_z-add, mul_z_assoc, neg_times, times_choice, times_either}
 
 -- a sum over the quantities is one sum for each kind
@@ -36,14 +35,14 @@ over_quantities m cuts f =
     (sum_over-append f _ _ ∙ (λ i. sum_over-range (λ j. OfCut j) f (length cuts) i +ℤ
     sum_over-range (λ j. OfPaths j) f (length m.graphs) i)) i)) i)) i)
 
--- sums of counts over arcs are sums over the arcs
-counts_over : (n : ℕ) (a : ℕ → ℤ) (test : ℕ → ℕ → Bool) (arcs : List ℕ) → sum_below n (λ j. a j *ℤ pos (count_by (test j) arcs)) ≡ sum_over (λ x. sum_below n (λ j. a j *ℤ pos (if test j x then 1 else 0))) arcs
+-- sums of counts over a list are sums over the list
+counts_over : {X : Type 0} (n : ℕ) (a : ℕ → ℤ) (test : ℕ → X → Bool) (xs : List X) → sum_below n (λ j. a j *ℤ pos (count_by (test j) xs)) ≡ sum_over (λ x. sum_below n (λ j. a j *ℤ pos (if test j x then 1 else 0))) xs
 counts_over n a test [] = (λ i. sum_below n (λ j. *ℤ-zero (a j) i)) ∙ sum_below-zero n
-counts_over n a test (x ∷ arcs) =
-    (λ i. sum_below n (λ j. a j *ℤ pos (sum_by-cons (λ (y : ℕ). if test j y then 1 else 0) x arcs i)))
-    ∙ ((λ i. sum_below n (λ j. mul_z-add (a j) (pos (if test j x then 1 else 0)) (pos (count_by (test j) arcs)) i))
-    ∙ (sum_below-add n (λ j. a j *ℤ pos (if test j x then 1 else 0)) (λ j. a j *ℤ pos (count_by (test j) arcs))
-    ∙ ap (λ (z : ℤ). sum_below n (λ j. a j *ℤ pos (if test j x then 1 else 0)) +ℤ z) (counts_over n a test arcs)))
+counts_over {X} n a test (x ∷ xs) =
+    (λ i. sum_below n (λ j. a j *ℤ pos (sum_by-cons (λ (y : X). if test j y then 1 else 0) x xs i)))
+    ∙ ((λ i. sum_below n (λ j. mul_z-add (a j) (pos (if test j x then 1 else 0)) (pos (count_by (test j) xs)) i))
+    ∙ (sum_below-add n (λ j. a j *ℤ pos (if test j x then 1 else 0)) (λ j. a j *ℤ pos (count_by (test j) xs))
+    ∙ ap (λ (z : ℤ). sum_below n (λ j. a j *ℤ pos (if test j x then 1 else 0)) +ℤ z) (counts_over n a test xs)))
 
 -- the variables of an arc, each of which it maps once
 ascends_rest : (v : ℕ) (vars : List ℕ) → Ascends (λ j. j) (v ∷ vars) → Ascends (λ j. j) vars
@@ -88,22 +87,18 @@ uses_over m u g v w arcs fits inside leads = counts_over (length m.vars) u (λ j
 visit_picks : (mult : Mult) (n : ℕ) (visit : Option ℕ) → IfSome visit (λ s. s < n) → sum_below n (λ s. int_at mult.sets s *ℤ pos (if is_visit s visit then 1 else 0)) ≡ visit_mult mult visit
 visit_picks mult n None inside = (λ i. sum_below n (λ s. *ℤ-zero (int_at mult.sets s) i)) ∙ sum_below-zero n
 visit_picks mult n (Some set) inside =
-    (λ i. sum_below n (λ s. int_at mult.sets s *ℤ pos (if visit_is s (Some set) i then 1 else 0)))
-    ∙ ((λ i. sum_below n (λ s. times_choice (set == s) (int_at mult.sets s) i)) ∙ sum_below-pick (int_at mult.sets) set n inside)
+    (λ i. sum_below n (λ s. times_choice (set == s) (int_at mult.sets s) i)) ∙ sum_below-pick (int_at mult.sets) set n inside
 
-visits_over : (m : ModelParts) (mult : Mult) (g v w : ℕ) (arcs : List ℕ) → All (IsDeclared m.sets) (graph_in m.graphs g).vertices → Leads (graph_in m.graphs g) v arcs w
-    → sum_below m.sets (λ s. int_at mult.sets s *ℤ pos (count_by (enters (graph_in m.graphs g) s) arcs)) ≡ sum_over (λ a. visit_mult mult (visit_over (graph_in m.graphs g) a)) arcs
-visits_over m mult g v w arcs declared leads = counts_over m.sets (int_at mult.sets) (enters graph) arcs ∙ each v w arcs leads
+visits_over : (m : ModelParts) (mult : Mult) (g : ℕ) (arcs : List ℕ) → All (IsDeclared m.sets) (graph_in m.graphs g).vertices
+    → sum_below m.sets (λ s. int_at mult.sets s *ℤ pos (visit_count s (visits_along (graph_in m.graphs g) arcs))) ≡ sum_over (λ a. visit_mult mult (visit_over (graph_in m.graphs g) a)) arcs
+visits_over m mult g arcs declared = counts_over m.sets (int_at mult.sets) is_visit (visits_along graph arcs) ∙ each arcs
   where
     graph : GraphParts
     graph = graph_in m.graphs g
 
-    each : (x y : ℕ) (xs : List ℕ) → Leads graph x xs y → sum_over (λ a. sum_below m.sets (λ s. int_at mult.sets s *ℤ pos (if enters graph s a then 1 else 0))) xs ≡ sum_over (λ a. visit_mult mult (visit_over graph a)) xs
-    each x y [] on = refl
-    each x y (a ∷ xs) on =
-        let here = (λ i. sum_below m.sets (λ s. int_at mult.sets s *ℤ pos (if sym (visit_over-is graph s a on.0) i then 1 else 0)))
-        ∙ visit_picks mult m.sets (visit_over graph a) (no_set_past graph.vertices m.sets (arc_at graph.arcs a).head declared) in
-        λ i. here i +ℤ each (arc_at graph.arcs a).head y xs on.2 i
+    each : (xs : List ℕ) → sum_over (λ v. sum_below m.sets (λ s. int_at mult.sets s *ℤ pos (if is_visit s v then 1 else 0))) (visits_along graph xs) ≡ sum_over (λ a. visit_mult mult (visit_over graph a)) xs
+    each [] = refl
+    each (a ∷ xs) = λ i. visit_picks mult m.sets (visit_over graph a) (no_set_past graph.vertices m.sets (arc_at graph.arcs a).head declared) i +ℤ each xs i
 
 -- a row's part is the sum of its coefficients
 row_over : (m : ModelParts) (terms : List RowTerm) (g : ℕ) (arcs : List ℕ) → All (TermFits (length m.vars)) terms
@@ -178,7 +173,7 @@ reduced_along m cuts mult g v w arcs fits inside leads =
     joined _ _ _ _ _ _ _ _ _ _ _ _ _ _
     (cost_over m mult g arcs) (uses_over m (reduced_unit m mult) g v w arcs fits inside leads) (arcs_over m mult g arcs)
     (over_quantities m cuts (λ q. mult_at mult q *ℤ amount m cuts q g arcs)) (rows_over m mult g arcs fits)
-    (visits_over m mult g v w arcs (fits.graphs.each g _ inside).declared leads) (cuts_over m cuts mult g arcs) (start_over m cuts mult g arcs inside)
+    (visits_over m mult g arcs (fits.graphs.each g _ inside).declared) (cuts_over m cuts mult g arcs) (start_over m cuts mult g arcs inside)
   where
     joined : (cost units arcs met all vars rows rows_on sets sets_on cut cuts_on paths start : ℤ) → cost ≡ (vars +ℤ rows_on) +ℤ units → units ≡ arcs → arcs ≡ met +ℤ sets_on
         → all ≡ vars +ℤ (rows +ℤ (sets +ℤ (cut +ℤ paths))) → rows ≡ rows_on → sets ≡ sets_on → cut +ℤ cuts_on ≡ pos 0 → paths ≡ start → cost -ℤ all ≡ neg_ℤ start +ℤ (met +ℤ cuts_on)

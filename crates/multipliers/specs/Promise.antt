@@ -7,7 +7,7 @@ use Rattle.rank1_cuts.specs.declared.cut.Cut.{Cut}
 use Rattle.route_model.specs.declared.multipliers.Mult.{Mult}
 use Rattle.route_model.specs.declared.multipliers.Priced.{Priced}
 use Rattle.route_model.specs.declared.places.Boxes.{Boxes}
-use Rattle.route_model.specs.declared.plan.Taken.{Taken}
+use Rattle.route_model.specs.declared.plan.Plan.{Plan}
 use Rattle.route_model.specs.Parts.{ModelParts, graph_in}
 use Rattle.route_model.specs.Places.{SolvesWithin}
 use Rattle.route_model.specs.Quantities.{cost_of}
@@ -18,7 +18,7 @@ use Rattle.multipliers.specs.Quantities.{plan_sum, reduced_cost, scaled}
 -- are at most its scaled cost
 abbrev pub BoundsCosts : ModelParts → List Cut → Boxes → Mult → Priced → Type 0
 BoundsCosts m cuts boxes mult p =
-    (plan : List Taken) → SolvesWithin m boxes plan → (p.base +ℤ plan_sum (reduced_cost m cuts mult) plan) ≤ℤ scaled (cost_of m plan)
+    (plan : Plan) → SolvesWithin m boxes plan → (p.base +ℤ plan_sum (reduced_cost m cuts mult) plan) ≤ℤ scaled (cost_of m plan)
 
 -- the reduced cost of arcs that lead on, as those of a partial walk or a walk: their start, each arc and each visit as
 -- priced, and the cuts

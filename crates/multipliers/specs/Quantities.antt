@@ -8,12 +8,13 @@ use Rattle.path_graph.specs.Visits.{visits_along}
 use Rattle.rank1_cuts.specs.declared.cut.Cut.{Cut}
 use Rattle.rank1_cuts.specs.Fit.{right_side_of}
 use Rattle.rank1_cuts.specs.Visits.{coef_of}
+use Rattle.route_model.specs.declared.limits.TheConstants.{SCALE}
 use Rattle.route_model.specs.declared.multipliers.Mult.{Mult}
 use Rattle.route_model.specs.declared.multipliers.Quantity.{Quantity}
 use Rattle.route_model.specs.declared.multipliers.Quantity.TheVariants.{Var as OfVar, Row as OfRow, Set as OfSet, Cut as OfCut, Paths as OfPaths}
 use Rattle.route_model.specs.declared.parts.RowTerm.{RowTerm}
 use Rattle.route_model.specs.declared.places.Boxes.{Boxes}
-use Rattle.route_model.specs.declared.plan.Taken.{Taken}
+use Rattle.route_model.specs.declared.plan.Plan.{Plan}
 use Rattle.route_model.specs.Parts.{ModelParts, graph_in, var_at, row_at, term_at}
 use Rattle.route_model.specs.Places.{span_at}
 use Rattle.route_model.specs.Quantities.{uses_in, visits_in, is_of}
@@ -49,11 +50,11 @@ amount m cuts (OfCut c) g arcs = pos (coef_of (cut_at cuts c) (visits_along (gra
 amount m cuts (OfPaths h) g arcs = pos (is_of h g arcs)
 
 -- a signed number of each walk, summed over the paths of a plan, counts included
-abbrev pub plan_sum : (ℕ → List ℕ → ℤ) → List Taken → ℤ
-plan_sum of_walk plan = sum_over (λ t. pos t.count *ℤ of_walk t.graph t.arcs) plan
+abbrev pub plan_sum : (ℕ → List ℕ → ℤ) → Plan → ℤ
+plan_sum of_walk plan = sum_over (λ t. pos t.count *ℤ of_walk t.graph t.arcs) plan.paths
 
 -- what a plan has of a quantity
-abbrev pub amount_in : ModelParts → List Cut → Quantity → List Taken → ℤ
+abbrev pub amount_in : ModelParts → List Cut → Quantity → Plan → ℤ
 amount_in m cuts q plan = plan_sum (amount m cuts q) plan
 
 -- where a quantity must lie: the box of a variable or path count, the sides of a row, 0..1 for a set, 0..right side for a
@@ -90,7 +91,7 @@ base m cuts boxes mult = sum_over (λ q. or_zero (term_of m cuts boxes mult q)) 
 
 -- costs at the scale of multipliers
 abbrev pub scaled : ℤ → ℤ
-scaled cost = pos 65536 *ℤ cost
+scaled cost = SCALE *ℤ cost
 
 -- the sum of multiplier × quantity, for what is had of each quantity
 abbrev pub weighted : ModelParts → List Cut → Mult → (Quantity → ℤ) → ℤ

@@ -16,6 +16,9 @@ use rank1_cuts::{Cut, right_side};
 use route_model::wide::{added, product};
 use route_model::{Row, Span, term};
 
+/// The most cuts that have multipliers at once.
+pub const MAX_CUTS: usize = 64;
+
 /// The term of a multiplier over a box, neither side of which is open.
 fn span_term(m: i64, span: Span) -> i128
     requires m { IsWithin (2 ^ 48) m }

@@ -9,5 +9,6 @@ mod pricing;
 mod roots;
 mod units;
 
+pub use base::MAX_CUTS;
 pub use pricing::priced;
 pub use roots::root_spot;

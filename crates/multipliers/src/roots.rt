@@ -1,6 +1,6 @@
 ghost use Rattle.std.specs.Prelude.{◌≡◌, ◌↔◌, List, IfOk, false, length, map};
 ghost use Rattle.path_graph.specs.Walk.{GraphParts};
-ghost use Rattle.route_model.specs.declared.plan.Taken.{Taken};
+ghost use Rattle.route_model.specs.declared.plan.Plan.{Plan};
 ghost use Rattle.route_model.specs.Places.{SolvesAt, SpotFits, path_span, root_place, var_span};
 ghost use Rattle.route_model.specs.Solution.{IsSolution};
 
@@ -12,7 +12,7 @@ use std::alloc::Global;
 pub fn root_spot(alloc: Global, model: &Model) -> Result<Spot, NoMemory>
     ensures root { IfOk result (λ spot. spot ≡ root_place model.now) }
     ensures fits { IfOk result (SpotFits model.now) }
-    ensures solutions { IfOk result (λ spot. (plan : List Taken) → SolvesAt model.now spot plan ↔ IsSolution model.now plan) }
+    ensures solutions { IfOk result (λ spot. (plan : Plan) → SolvesAt model.now spot plan ↔ IsSolution model.now plan) }
 {
     let vars = var_spans(alloc, model.vars.as_slice())?;
     let paths = path_spans(alloc, model.graphs.as_slice())?;

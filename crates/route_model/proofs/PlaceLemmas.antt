@@ -11,7 +11,7 @@ use Rattle.route_model.specs.declared.places.Boxes.{Boxes}
 use Rattle.route_model.specs.declared.places.Span.{Span}
 use Rattle.route_model.specs.declared.places.Split.{Split}
 use Rattle.route_model.specs.declared.places.Spot.{Spot}
-use Rattle.route_model.specs.declared.plan.Taken.{Taken}
+use Rattle.route_model.specs.declared.plan.Plan.{Plan}
 use Rattle.path_graph.specs.First.{EachBelow}
 use Rattle.route_model.specs.Parts.{ModelParts, graph_in, taken_at, var_at}
 use Rattle.route_model.specs.PlaceParts.{DropLaw, HasBox, HasMarks, KeepsLaw, NamedArc, PartsLaw, SplitFits, SplitLaw, box_in, dropping, high_part, high_place, is_named, low_part, low_place, with_box}
@@ -36,21 +36,21 @@ in_part span d x inside =
     by_lt_z d x (λ above. inr (omega (arith, ints, above), inside.1)) (λ most. inl (inside.0, most))
 
 -- what a plan has of what is split
-abbrev value_in : ModelParts → List Taken → Quantity → ℤ
+abbrev value_in : ModelParts → Plan → Quantity → ℤ
 value_in m plan (Var j) = pos (value_of m plan j)
 value_in m plan (Paths g) = pos (paths_of plan g)
 value_in m plan (Row i) = pos 0
 value_in m plan (Set s) = pos 0
 value_in m plan (Cut c) = pos 0
 
-value_inside : (m : ModelParts) (spot : Spot) (q : Quantity) (plan : List Taken) → HasBox m q → SolvesAt m spot plan → IsInSpan (box_in spot q) (value_in m plan q)
+value_inside : (m : ModelParts) (spot : Spot) (q : Quantity) (plan : Plan) → HasBox m q → SolvesAt m spot plan → IsInSpan (box_in spot q) (value_in m plan q)
 value_inside m spot (Var j) plan has solves = solves.within.vars j has
 value_inside m spot (Paths g) plan has solves = solves.within.paths g has
 value_inside m spot (Row i) plan has solves = absurd has
 value_inside m spot (Set s) plan has solves = absurd has
 value_inside m spot (Cut c) plan has solves = absurd has
 
-solves_part : (m : ModelParts) (spot : Spot) (q : Quantity) (span : Span) (plan : List Taken) → HasBox m q → SolvesAt m spot plan → IsInSpan span (value_in m plan q) → SolvesAt m (with_box spot q span) plan
+solves_part : (m : ModelParts) (spot : Spot) (q : Quantity) (span : Span) (plan : Plan) → HasBox m q → SolvesAt m spot plan → IsInSpan span (value_in m plan q) → SolvesAt m (with_box spot q span) plan
 solves_part m spot (Var j) span plan has solves inside = record {
   within = record {
     solution = solves.within.solution;
@@ -204,5 +204,5 @@ keeps_law m spot arcs plan has solves unused =
         paths = λ g l. subst (λ (boxes : Boxes). IsInSpan (span_at boxes.paths g) (pos (paths_of plan g))) (sym drops.0) (solves.within.paths g l);
       };
       kept = λ i l k d inside.
-          drops.1 (taken_at plan i).graph (get_or (taken_at plan i).arcs k d) ∙ (λ e. solves.kept i l k d inside e || unused i l k d inside e);
+          drops.1 (taken_at plan.paths i).graph (get_or (taken_at plan.paths i).arcs k d) ∙ (λ e. solves.kept i l k d inside e || unused i l k d inside e);
     }

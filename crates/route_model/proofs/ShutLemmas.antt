@@ -11,26 +11,27 @@ use Rattle.path_graph.specs.Walk.{GraphParts, Leads, arc_at}
 use Rattle.route_model.specs.declared.places.Span.{Span}
 use Rattle.route_model.specs.declared.places.Spot.{Spot}
 use Rattle.route_model.specs.declared.plan.Taken.{Taken}
+use Rattle.route_model.specs.declared.plan.Plan.{Plan}
 use Rattle.route_model.specs.Fit.{ModelFits}
 use Rattle.route_model.specs.Parts.{ModelParts, graph_in, mapped_vars, taken_at}
 use Rattle.route_model.specs.Places.{IsInSpan, SolvesAt, UsesNone, ends_at_zero, shut_at, span_at}
 use Rattle.route_model.specs.Quantities.{is_mapped, is_of, paths_of, quantity, uses_in, value_of}
 
 -- what a walk of a plan has, the plan has
-pub in_plan : (f : ℕ → List ℕ → ℕ) (plan : List Taken) (i : ℕ) → i < length plan → 1 ≤ (taken_at plan i).count → f (taken_at plan i).graph (taken_at plan i).arcs ≤ quantity f plan
+pub in_plan : (f : ℕ → List ℕ → ℕ) (plan : Plan) (i : ℕ) → i < length plan.paths → 1 ≤ (taken_at plan.paths i).count → f (taken_at plan.paths i).graph (taken_at plan.paths i).arcs ≤ quantity f plan
 in_plan f plan i below some =
-    let one = get_or-le-sum_by (λ (t : Taken). t.count * f t.graph t.arcs) plan i (record { graph = 0; count = 0; arcs = [] }) below in
-    more (taken_at plan i).count (f (taken_at plan i).graph (taken_at plan i).arcs) (quantity f plan) some one
+    let one = get_or-le-sum_by (λ (t : Taken). t.count * f t.graph t.arcs) plan.paths i (record { graph = 0; count = 0; arcs = [] }) below in
+    more (taken_at plan.paths i).count (f (taken_at plan.paths i).graph (taken_at plan.paths i).arcs) (quantity f plan) some one
   where
     more : (n x q : ℕ) → 1 ≤ n → n * x ≤ q → x ≤ q
     more n x q h k = grind arith
 
 -- a path of a graph counts
-pub paths_some : (plan : List Taken) (i : ℕ) → i < length plan → 1 ≤ (taken_at plan i).count → 1 ≤ paths_of plan (taken_at plan i).graph
+pub paths_some : (plan : Plan) (i : ℕ) → i < length plan.paths → 1 ≤ (taken_at plan.paths i).count → 1 ≤ paths_of plan (taken_at plan.paths i).graph
 paths_some plan i below some =
-    let one = in_plan (is_of (taken_at plan i).graph) plan i below some in
-    let g : ℕ = (taken_at plan i).graph in
-    let is : is_of g g (taken_at plan i).arcs ≡ 1 = grind (arith, nat_tests) in
+    let one = in_plan (is_of (taken_at plan.paths i).graph) plan i below some in
+    let g : ℕ = (taken_at plan.paths i).graph in
+    let is : is_of g g (taken_at plan.paths i).arcs ≡ 1 = grind (arith, nat_tests) in
     omega (arith, one, is)
 
 -- an arc of a walk that passes a test is counted
@@ -71,11 +72,11 @@ not_zero span n inside some =
     let high : pos 1 ≤ℤ span.high = omega (arith, ints, inside.1) in
     grind (arith, ints)
 
-none_zero : (m : ModelParts) (spot : Spot) (plan : List Taken) (i k d : ℕ) → ModelFits m → SolvesAt m spot plan → i < length plan → k < length (taken_at plan i).arcs
-    → list_any (λ j. ends_at_zero (span_at spot.boxes.vars j)) (mapped_vars m.maps (taken_at plan i).graph (get_or (taken_at plan i).arcs k d)) ≡ true → ⊥
+none_zero : (m : ModelParts) (spot : Spot) (plan : Plan) (i k d : ℕ) → ModelFits m → SolvesAt m spot plan → i < length plan.paths → k < length (taken_at plan.paths i).arcs
+    → list_any (λ j. ends_at_zero (span_at spot.boxes.vars j)) (mapped_vars m.maps (taken_at plan.paths i).graph (get_or (taken_at plan.paths i).arcs k d)) ≡ true → ⊥
 none_zero m spot plan i k d fits solves below inside h =
-    let g : ℕ = (taken_at plan i).graph in
-    let arcs : List ℕ = (taken_at plan i).arcs in
+    let g : ℕ = (taken_at plan.paths i).graph in
+    let arcs : List ℕ = (taken_at plan.paths i).arcs in
     let a : ℕ = get_or arcs k d in
     let path = solves.within.solution.paths i below in
     let maps = fits.maps.each g path.graph in
@@ -88,11 +89,11 @@ none_zero m spot plan i k d fits solves below inside h =
     let had = in_plan (uses_in m.maps j) plan i below path.count in
     true≢false (sym at.2 ∙ not_zero (span_at spot.boxes.vars j) (value_of m plan j) (solves.within.vars j declared) (omega (arith, used, had)))
 
-pub not_shut : (m : ModelParts) (spot : Spot) (plan : List Taken) → ModelFits m → SolvesAt m spot plan → UsesNone (shut_at m spot) plan
+pub not_shut : (m : ModelParts) (spot : Spot) (plan : Plan) → ModelFits m → SolvesAt m spot plan → UsesNone (shut_at m spot) plan
 not_shut m spot plan fits solves i below k d inside =
-    let g : ℕ = (taken_at plan i).graph in
+    let g : ℕ = (taken_at plan.paths i).graph in
     let path = solves.within.solution.paths i below in
-    let vars = not_true (list_any (λ j. ends_at_zero (span_at spot.boxes.vars j)) (mapped_vars m.maps g (get_or (taken_at plan i).arcs k d))) (none_zero m spot plan i k d fits solves below inside) in
+    let vars = not_true (list_any (λ j. ends_at_zero (span_at spot.boxes.vars j)) (mapped_vars m.maps g (get_or (taken_at plan.paths i).arcs k d))) (none_zero m spot plan i k d fits solves below inside) in
     let paths = not_zero (span_at spot.boxes.paths g) (paths_of plan g) (solves.within.paths g path.graph) (paths_some plan i below path.count) in
     neither _ _ _ (solves.kept i below k d inside) vars paths
   where

@@ -6,7 +6,7 @@ use Rattle.route_model.specs.declared.multipliers.Quantity.TheVariants.{Var, Row
 use Rattle.route_model.specs.declared.places.Span.{Span}
 use Rattle.route_model.specs.declared.places.Split.{Split}
 use Rattle.route_model.specs.declared.places.Spot.{Spot}
-use Rattle.route_model.specs.declared.plan.Taken.{Taken}
+use Rattle.route_model.specs.declared.plan.Plan.{Plan}
 use Rattle.route_model.specs.Parts.{ModelParts}
 use Rattle.route_model.specs.Places.{SolvesAt, SpotFits, UsesNone, is_dropped, marks_of, span_at}
 
@@ -56,7 +56,7 @@ pub record SplitFits (m : ModelParts) (spot : Spot) (split : Split) : Type 0 whe
 
 -- a solution of a place solves one of the two places of a split
 abbrev pub SplitLaw : Type 0
-SplitLaw = (m : ModelParts) (spot : Spot) (split : Split) (plan : List Taken) → SplitFits m spot split → SolvesAt m spot plan
+SplitLaw = (m : ModelParts) (spot : Spot) (split : Split) (plan : Plan) → SplitFits m spot split → SolvesAt m spot plan
     → SolvesAt m (low_place spot split) plan ⊎ SolvesAt m (high_place spot split) plan
 
 -- both are places of the model
@@ -87,5 +87,5 @@ DropLaw = (spot : Spot) (arcs : List NamedArc) → HasMarks spot arcs
 
 -- and a solution of the place that uses none of them solves the new one
 abbrev pub KeepsLaw : Type 0
-KeepsLaw = (m : ModelParts) (spot : Spot) (arcs : List NamedArc) (plan : List Taken) → HasMarks spot arcs → SolvesAt m spot plan
+KeepsLaw = (m : ModelParts) (spot : Spot) (arcs : List NamedArc) (plan : Plan) → HasMarks spot arcs → SolvesAt m spot plan
     → UsesNone (is_named arcs) plan → SolvesAt m (dropping spot arcs) plan

@@ -7,7 +7,7 @@ use Rattle.route_model.specs.declared.parts.Var.{Var}
 use Rattle.route_model.specs.declared.places.Boxes.{Boxes}
 use Rattle.route_model.specs.declared.places.Span.{Span}
 use Rattle.route_model.specs.declared.places.Spot.{Spot}
-use Rattle.route_model.specs.declared.plan.Taken.{Taken}
+use Rattle.route_model.specs.declared.plan.Plan.{Plan}
 use Rattle.path_graph.specs.First.{EachBelow}
 use Rattle.route_model.specs.Parts.{ModelParts, graph_in, mapped_vars, taken_at, var_at}
 use Rattle.route_model.specs.Quantities.{paths_of, value_of}
@@ -80,16 +80,16 @@ shut_at m spot g a =
     || (list_any (λ j. ends_at_zero (span_at spot.boxes.vars j)) (mapped_vars m.maps g a) || ends_at_zero (span_at spot.boxes.paths g))
 
 -- a solution within the boxes
-pub record SolvesWithin (m : ModelParts) (boxes : Boxes) (plan : List Taken) : Type 0 where
+pub record SolvesWithin (m : ModelParts) (boxes : Boxes) (plan : Plan) : Type 0 where
   pub solution : IsSolution m plan
   pub vars : EachBelow (length m.vars) (λ j. IsInSpan (span_at boxes.vars j) (pos (value_of m plan j)))
   pub paths : EachBelow (length m.graphs) (λ g. IsInSpan (span_at boxes.paths g) (pos (paths_of plan g)))
 
 -- no arc of a path of the plan passes the test, which goes by graph and arc
-abbrev pub UsesNone : (ℕ → ℕ → Bool) → List Taken → Type 0
-UsesNone test plan = EachBelow (length plan) (λ i. All (λ a. test (taken_at plan i).graph a ≡ false) (taken_at plan i).arcs)
+abbrev pub UsesNone : (ℕ → ℕ → Bool) → Plan → Type 0
+UsesNone test plan = EachBelow (length plan.paths) (λ i. All (λ a. test (taken_at plan.paths i).graph a ≡ false) (taken_at plan.paths i).arcs)
 
 -- a solution of the place: within the boxes, and it uses no dropped arc
-pub record SolvesAt (m : ModelParts) (spot : Spot) (plan : List Taken) : Type 0 where
+pub record SolvesAt (m : ModelParts) (spot : Spot) (plan : Plan) : Type 0 where
   pub within : SolvesWithin m spot.boxes plan
   pub kept : UsesNone (is_dropped spot) plan

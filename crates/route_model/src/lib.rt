@@ -23,7 +23,7 @@ pub use costs::box_costs;
 pub use fit::{model_fits, path_total};
 pub use limits::{
     MAX_ALL_ARCS, MAX_COEF, MAX_COEF_SUM, MAX_COST, MAX_COST_RANGE, MAX_GRAPHS, MAX_MAPPED,
-    MAX_ROWS, MAX_SIDE, MAX_TERMS, MAX_VALUE, MAX_VARS,
+    MAX_MULT, MAX_ROWS, MAX_SIDE, MAX_TERMS, MAX_VALUE, MAX_VARS, SCALE,
 };
 pub use multipliers::{Mult, MultFault, Priced, Quantity};
 pub use parts::{BuildFault, Model, Row, RowTerm, Var};

@@ -1,6 +1,6 @@
 ghost use Rattle.std.specs.Prelude.{◌≡◌, ◌<◌, List, All, length};
 ghost use Rattle.std.specs.List.{list_any};
-ghost use Rattle.route_model.specs.declared.plan.Taken.{Taken};
+ghost use Rattle.route_model.specs.declared.plan.Plan.{Plan};
 ghost use Rattle.route_model.specs.Parts.{graph_in};
 ghost use Rattle.route_model.specs.PlaceParts.{DropLaw, KeepsLaw, PartsLaw, SplitLaw};
 ghost use Rattle.route_model.specs.Places.{IsSpotOf, SolvesAt, UsesNone, ends_at_zero, is_dropped, shut_at, span_at};
@@ -17,7 +17,7 @@ pub fn is_shut(model: &Model, spot: &Spot, g: u32, a: u32) -> bool
     requires graph { g < length model.now.graphs }
     requires arc { a < length (graph_in model.now.graphs g).arcs }
     ensures shut { result ≡ shut_at model.now spot.now g a }
-    ensures unused { (plan : List Taken) → SolvesAt model.now spot.now plan → UsesNone (shut_at model.now spot.now) plan }
+    ensures unused { (plan : Plan) → SolvesAt model.now spot.now plan → UsesNone (shut_at model.now spot.now) plan }
 {
     let vars = model.maps.at(g as usize).at(a as usize).as_slice();
     is_marked(spot, g, a)

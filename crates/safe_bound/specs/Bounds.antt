@@ -6,7 +6,7 @@ use Rattle.path_graph.specs.Sums.{sum_below}
 use Rattle.rank1_cuts.specs.declared.cut.Cut.{Cut}
 use Rattle.route_model.specs.declared.multipliers.Mult.{Mult}
 use Rattle.route_model.specs.declared.places.Span.{Span}
-use Rattle.route_model.specs.declared.plan.Taken.{Taken}
+use Rattle.route_model.specs.declared.plan.Plan.{Plan}
 use Rattle.route_model.specs.Parts.{ModelParts, taken_at}
 use Rattle.route_model.specs.Places.{ends_at_zero, span_at}
 use Rattle.route_model.specs.Terms.{or_zero, sides_of, term}
@@ -27,9 +27,9 @@ abbrev pub IsUpTo : Option ℤ → ℤ → Type 0
 IsUpTo limit x = MatchOption limit ⊥ (λ l. x ≤ℤ l)
 
 -- no walk of the plan has a reduced cost below the least of its graph
-abbrev pub AreLeasts : ModelParts → List Cut → Mult → List (Option ℤ) → List Taken → Type 0
+abbrev pub AreLeasts : ModelParts → List Cut → Mult → List (Option ℤ) → Plan → Type 0
 AreLeasts m cuts mult leasts plan =
-    EachBelow (length plan) (λ i. IsFrom (least_at leasts (taken_at plan i).graph) (reduced_cost m cuts mult (taken_at plan i).graph (taken_at plan i).arcs))
+    EachBelow (length plan.paths) (λ i. IsFrom (least_at leasts (taken_at plan.paths i).graph) (reduced_cost m cuts mult (taken_at plan.paths i).graph (taken_at plan.paths i).arcs))
 
 -- what a graph adds: the term of its least over the box of its path count, 0 for none
 abbrev pub graph_term : Option ℤ → Span → ℤ

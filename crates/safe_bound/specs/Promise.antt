@@ -7,7 +7,7 @@ use Rattle.route_model.specs.declared.multipliers.Mult.{Mult}
 use Rattle.route_model.specs.declared.multipliers.Priced.{Priced}
 use Rattle.route_model.specs.declared.places.Boxes.{Boxes}
 use Rattle.route_model.specs.declared.places.Span.{Span}
-use Rattle.route_model.specs.declared.plan.Taken.{Taken}
+use Rattle.route_model.specs.declared.plan.Plan.{Plan}
 use Rattle.route_model.specs.Fit.{ModelFits}
 use Rattle.route_model.specs.Parts.{ModelParts, taken_at}
 use Rattle.route_model.specs.Places.{SolvesWithin}
@@ -35,12 +35,12 @@ IsBoundNear (NoPaths g) = Unit {0}
 -- whose walks these are leasts
 abbrev pub BoundHolds : Priced → Boxes → List (Option ℤ) → Bound → Type 0
 BoundHolds priced boxes leasts bound =
-    (m : ModelParts) (cuts : List Cut) (mult : Mult) (plan : List Taken) → ModelFits m → All CutFits cuts → length boxes.paths ≡ length m.graphs
+    (m : ModelParts) (cuts : List Cut) (mult : Mult) (plan : Plan) → ModelFits m → All CutFits cuts → length boxes.paths ≡ length m.graphs
     → IsPriced m cuts boxes mult priced → SolvesWithin m boxes plan → AreLeasts m cuts mult leasts plan → IsUnder bound (cost_of m plan)
 
 -- and where such a solution costs less than z, each of its walks of graph g has a reduced cost of at most the limit
 abbrev pub LimitHolds : Priced → Boxes → List (Option ℤ) → ℕ → ℤ → Option ℤ → Type 0
 LimitHolds priced boxes leasts g z limit =
-    (m : ModelParts) (cuts : List Cut) (mult : Mult) (plan : List Taken) (i : ℕ) → ModelFits m → All CutFits cuts → length boxes.paths ≡ length m.graphs
+    (m : ModelParts) (cuts : List Cut) (mult : Mult) (plan : Plan) (i : ℕ) → ModelFits m → All CutFits cuts → length boxes.paths ≡ length m.graphs
     → IsPriced m cuts boxes mult priced → SolvesWithin m boxes plan → AreLeasts m cuts mult leasts plan → cost_of m plan <ℤ z
-    → i < length plan → (taken_at plan i).graph ≡ g → IsUpTo limit (reduced_cost m cuts mult g (taken_at plan i).arcs)
+    → i < length plan.paths → (taken_at plan.paths i).graph ≡ g → IsUpTo limit (reduced_cost m cuts mult g (taken_at plan.paths i).arcs)
