@@ -146,6 +146,7 @@ all_paths graphs spans count each k d below =
 
 pub paths_fit : (m : ModelParts) (boxes : Boxes) → ModelFits m → BoxesFit m boxes → PathsFit boxes.paths
 paths_fit m boxes fits are = record {
+  graphs = omega (arith, are.paths, fits.graphs.few);
   each = all_paths m.graphs boxes.paths are.paths are.each_path;
   few = omega (arith, highs_few m.graphs boxes.paths are.paths are.each_path, fits.graphs.few_paths);
 }
