@@ -1,5 +1,5 @@
 -- Sums of the weights of cuts, each so many times.
-use Rattle.std.proofs.Common.{◌≡◌, ℕ, zero, suc, ◌+◌, ◌<◌, ◌≤◌, ℤ, pos, ◌+ℤ◌, ◌≤ℤ◌, length, get_or, mul-add, mul-le-mul_left, refl, ◌∙◌, ap, arith}
+use Rattle.std.proofs.Common.{◌≡◌, ℕ, ◌+◌, ◌<◌, ◌≤◌, ℤ, pos, ◌+ℤ◌, ◌≤ℤ◌, length, get_or, mul-add, mul-le-mul_left, ◌∙◌, ap, arith}
 use Rattle.std.proofs.lemmas.Int.{ints}
 use Rattle.path_graph.specs.Sums.{sum_below}
 use Rattle.path_graph.proofs.SumLemmas.{sum_below-same, sum_below-add, sum_below-≤, sum_below-zero}
@@ -29,4 +29,3 @@ pub charges-≤ : (S : Setting) (f h : ℕ → ℕ) → ((i : ℕ) → i < lengt
 charges-≤ S f h e =
     sum_below-≤ (length S.cuts) (λ i. charge S i (f i)) (λ i. charge S i (h i))
     (λ i l. let most = mul-le-mul_left (get_or S.weights i 0) (e i l) in omega (arith, ints, most))
-

@@ -1,5 +1,5 @@
 -- The costs of labels: first without cuts, then with them, up to the law that a join costs as much as the walk.
-use Rattle.std.proofs.Common.{get_or, ◌-◌, ◌≡◌, ℕ, zero, suc, ◌+◌, ◌<◌, false, ℤ, pos, ◌+ℤ◌, Option, None, List, [], ◌∷◌, ◌++◌, length, map, reverse, mul-add, refl, sym, ◌∙◌, ap, arith}
+use Rattle.std.proofs.Common.{get_or, ◌-◌, ◌≡◌, ℕ, zero, suc, ◌+◌, ◌<◌, false, ℤ, pos, ◌+ℤ◌, Option, None, List, [], ◌∷◌, ◌++◌, length, map, reverse, refl, sym, ◌∙◌, ap, arith}
 use Rattle.std.specs.Prelude.{nat_le}
 use Rattle.std.proofs.lemmas.Bool.{cond-false, lt-leb}
 use Rattle.std.proofs.lemmas.Int.{ints}

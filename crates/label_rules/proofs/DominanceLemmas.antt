@@ -1,5 +1,5 @@
 -- Dominance keeps joins and their costs.
-use Rattle.std.proofs.Common.{◌∙◌, sym, ℤ, ℕ, ◌+◌, ◌<◌, ◌≤◌, nat_lt, ◌≤ℤ◌, length, get_or, mul-le-mul_left, subst, arith}
+use Rattle.std.proofs.Common.{◌∙◌, sym, ℤ, ℕ, ◌+◌, ◌≤◌, nat_lt, ◌≤ℤ◌, subst, arith}
 use Rattle.std.specs.Prelude.{nat_le}
 use Rattle.std.proofs.lemmas.Bool.Decides.{nat_tests}
 use Rattle.std.proofs.lemmas.Int.{ints}

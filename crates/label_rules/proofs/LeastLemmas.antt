@@ -2,7 +2,7 @@
 use Rattle.std.proofs.Common.{◌≡◌, ℕ, zero, suc, ◌<◌, nat_lt, ℤ, ◌≤ℤ◌, Option, None, Some, List, [], ◌∷◌, ◌++◌, length, get_or, sym, ◌∙◌, ap, subst, arith}
 use Rattle.std.specs.Prelude.{Contains}
 use Rattle.std.proofs.lemmas.Int.{ints}
-use Rattle.path_graph.specs.Walk.{arc_at, IsWalk}
+use Rattle.path_graph.specs.Walk.{arc_at}
 use Rattle.path_graph.proofs.WalkLemmas.{leads_split}
 use Rattle.path_graph.specs.Bounds.{IsAbove, IsAtLeast, IsAtMost, IsNoGreater}
 use Rattle.label_rules.specs.Admitted.{IsAdmitted}

@@ -1,16 +1,15 @@
 -- Over an extension the level rises and the cost changes little, so costs keep the range of their level.
-use Rattle.std.proofs.Common.{◌≡◌, ℕ, zero, suc, ◌+◌, ◌*◌, ◌^◌, ◌-◌, ◌<◌, ◌≤◌, Bool, true, false, ℤ, pos, neg_ℤ, ◌+ℤ◌, ◌-ℤ◌, ◌*ℤ◌, ◌≤ℤ◌, Option, None, Some, length, get_or, refl, sym, ◌∙◌, ap, subst, arith}
+use Rattle.std.proofs.Common.{◌≡◌, ℕ, zero, suc, ◌+◌, ◌*◌, ◌^◌, ◌-◌, ◌<◌, ◌≤◌, Bool, true, false, ℤ, pos, neg_ℤ, ◌+ℤ◌, ◌-ℤ◌, ◌*ℤ◌, ◌≤ℤ◌, Option, None, Some, length, ◌∙◌, ap, arith}
 use Rattle.std.specs.Prelude.{IfSome, map, replicate, slice_index}
 use Rattle.std.specs.List.{range_with_len}
 use Rattle.std.proofs.lemmas.Int.{ints}
 use Rattle.std.proofs.lemmas.List.{get_or-append_right}
 use Rattle.std.proofs.lemmas.List.FromFn.{length-map-range_with_len}
 use Rattle.path_graph.specs.declared.limits.TheConstants.{MAX_SETS}
-use Rattle.path_graph.specs.Fit.{vertex_at}
 use Rattle.path_graph.specs.Level.{level_of}
 use Rattle.path_graph.specs.Sums.{sum_below}
-use Rattle.path_graph.specs.Walk.{IsGraph, arc_at, over_of, root_of}
-use Rattle.path_graph.specs.Rest.{back_of, end_of}
+use Rattle.path_graph.specs.Walk.{root_of}
+use Rattle.path_graph.specs.Rest.{end_of}
 use Rattle.path_graph.specs.Within.{IsWithin}
 use Rattle.path_graph.proofs.LevelLemmas.{level_rises, level_falls, level_within}
 use Rattle.path_graph.proofs.WalkLemmas.{root_is_within}

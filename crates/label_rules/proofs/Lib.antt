@@ -12,3 +12,5 @@ pub mod LabelCostLemmas
 pub mod TestLemmas
 pub mod LevelLemmas
 pub mod SpaceLemmas
+pub mod ClosedTests
+mod Examples

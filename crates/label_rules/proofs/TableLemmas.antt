@@ -1,20 +1,11 @@
 -- What lists that are covers cover: the labels of partial walks and of rests.
-use Rattle.std.proofs.Common.{◌≡◌, ◌≢◌, ℕ, ◌<◌, Bool, true, false, ℤ, pos, ◌≤ℤ◌, ◌+ℤ◌, Option, None, Some, List, [], ◌∷◌, ◌++◌, length, inl, inr, ◌⊎◌, refl, sym, ◌∙◌, ap, subst, arith}
-use lib.Signed.{◌<ℤ◌}
-use Rattle.std.specs.Prelude.{Contains}
-use Rattle.std.specs.Int.{int_max}
+use Rattle.std.proofs.Common.{◌≡◌, ℕ, ◌<◌, ℤ, Option, None, Some, List, [], ◌∷◌, ◌++◌, length, sym, ◌∙◌, subst, arith}
 use Rattle.std.proofs.lemmas.Int.{ints}
 use Rattle.std.proofs.lemmas.List.Elements.{All-contains}
-use Rattle.path_graph.specs.declared.parts.Values.{Values}
-use Rattle.path_graph.specs.Fit.{int_at, window_at, vertex_at, NeedFits}
-use Rattle.path_graph.specs.Walk.{IsGraph, arc_at, Leads, IsWalk, Passes, root_of}
-use Rattle.path_graph.specs.Within.{AreWithin}
-use Rattle.path_graph.proofs.WalkLemmas.{leads_split, passes_split, moved_is_within}
-use Rattle.path_graph.proofs.RestLemmas.{rest_has}
+use Rattle.path_graph.specs.Walk.{arc_at, Leads, IsWalk}
 use Rattle.label_rules.specs.Dominance.{Dominates, StatesFit}
 use Rattle.label_rules.specs.Joins.{HaveJoin}
 use Rattle.label_rules.specs.Labels.{Backward, CanExtend, Direction, ExtendsAlong, Forward, HasBackwardLabel, HasForwardLabel, Label, Setting, SettingFits, backward_label, cut_at, extended, forward_label, label_from, left, root}
-use Rattle.label_rules.specs.Spaces.{dominates}
 use Rattle.label_rules.specs.Tables.{BackwardCoverLaw, Covers, ForwardCoverLaw, IsCover, NeedsDominator}
 use Rattle.label_rules.proofs.LabelLemmas.{backward_vertex}
 use Rattle.label_rules.proofs.CostLemmas.{root_state}
@@ -89,7 +80,6 @@ forward_law S labels arcs v fits closed leads has =
 
 pub backward_law : BackwardCoverLaw
 backward_law S labels arcs v fits closed leads has = covers_backward S None labels arcs v fits closed leads has (all_backward S arcs)
-
 
 -- a walk is cut at an arc, and labels of two lists dominate those of its parts: so the lists have a join over the arc
 pub lists_join : (S : Setting) (fore back : List Label) (front : List ℕ) (a : ℕ) (rest : List ℕ) → SettingFits S → IsWalk S.graph (front ++ a ∷ rest) → HasForwardLabel S (front ++ a ∷ rest)

@@ -1,5 +1,5 @@
 -- The tests of a space of labels decide what they stand for.
-use Rattle.std.proofs.Common.{◌≡◌, ◌==◌, ℕ, ◌<◌, ◌≤◌, nat_lt, not, ◌&&◌, ◌||◌, Bool, true, false, cond, ℤ, pos, neg_ℤ, ◌+ℤ◌, ◌≤ℤ◌, ◌<ℤ◌, Option, None, Some, length, inl, inr, refl, sym, ◌∙◌, ap, subst, arith, Decides}
+use Rattle.std.proofs.Common.{◌≡◌, ◌==◌, ℕ, ◌<◌, ◌≤◌, nat_lt, not, ◌&&◌, ◌||◌, Bool, true, false, cond, ℤ, neg_ℤ, ◌+ℤ◌, ◌≤ℤ◌, ◌<ℤ◌, Option, None, Some, length, inl, inr, refl, sym, ◌∙◌, ap, arith, Decides}
 use lib.Signed.{le_z, lt_z}
 use Rattle.std.proofs.lemmas.Bool.{false≢true, cond-true, cases_lt}
 use Rattle.std.proofs.lemmas.Bool.Decides.{nat_tests, Decides-and, Decides-not, Decides-eqb, Decides-ltb, Decides-like, Decides-below_and}
@@ -8,7 +8,6 @@ use Rattle.path_graph.specs.declared.parts.Values.{Values}
 use Rattle.path_graph.specs.declared.set_bits.SetBits.{SetBits}
 use Rattle.path_graph.specs.Fit.{int_at, window_at, vertex_at}
 use Rattle.path_graph.specs.SetBits.{all_below, is_subset}
-use Rattle.path_graph.specs.Within.{AreWithin}
 use Rattle.path_graph.proofs.SetBitsMade.{is_subset-decides}
 use Rattle.ng_sets.specs.Memory.{IsRemembered}
 use Rattle.label_rules.specs.Dominance.{Dominates, IsNoWorse, StatesFit, excess}
@@ -17,7 +16,7 @@ use Rattle.label_rules.specs.SpaceLaws.{DominanceTestLaw, ExtensionTestLaw, IsEx
 use Rattle.label_rules.specs.Spaces.{IsLabel, can_extend, cost_limit, dominates, extension, is_label, is_no_worse, is_remembered, lies_at, lies_in_windows, needs_dominator, states_fit, window_takes}
 use Rattle.label_rules.specs.Tables.{LiesInWindows, NeedsDominator, first_value}
 
-le_decides : (x y : ℤ) → Decides (le_z x y) (x ≤ℤ y)
+pub le_decides : (x y : ℤ) → Decides (le_z x y) (x ≤ℤ y)
 le_decides x y = (λ h. grind (arith, ints, h), λ h. grind (arith, ints, h))
 
 lt_decides : (x y : ℤ) → Decides (lt_z x y) (x <ℤ y)
@@ -27,7 +26,7 @@ below_decides : (test : ℕ → Bool) (P : ℕ → Type 0) → ((k : ℕ) → De
 unfolding all_below
 below_decides test P each = Decides-below_and test P (all_below test) each refl (λ n. refl)
 
-shut_decides : (x : Bool) → Decides (not x) (x ≡ false)
+pub shut_decides : (x : Bool) → Decides (not x) (x ≡ false)
 shut_decides true = (λ h. absurd (false≢true h), λ h. absurd (false≢true (sym h)))
 shut_decides false = (λ h. refl, λ h. refl)
 
@@ -56,7 +55,7 @@ needed_decides Backward S None l = (λ h. tt, λ h. refl)
 needed_decides Forward S (Some t) l = Decides-and _ _ (le_decides (first_value l) t) (Decides-not _ (Decides-eqb l.vertex S.graph.ends.sink))
 needed_decides Backward S (Some t) l = Decides-and _ _ (lt_decides t (first_value l)) (Decides-not _ (Decides-eqb l.vertex S.graph.ends.source))
 
-no_worse_decides : (direction : Direction) (x y : ℤ) → Decides (is_no_worse direction x y) (IsNoWorse direction x y)
+pub no_worse_decides : (direction : Direction) (x y : ℤ) → Decides (is_no_worse direction x y) (IsNoWorse direction x y)
 no_worse_decides Forward x y = le_decides x y
 no_worse_decides Backward x y = le_decides y x
 

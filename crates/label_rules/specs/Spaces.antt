@@ -1,5 +1,5 @@
 -- The labels of one direction as a space: which labels are of it, their extensions, dominance and levels, as tests.
-use Rattle.std.specs.Prelude.{◌≡◌, ◌==◌, ℕ, ◌<◌, ◌≤◌, ◌^◌, ◌+◌, nat_lt, nat_le, not, ◌&&◌, ◌||◌, Bool, true, false, if◌then◌else◌, ℤ, pos, neg_ℤ, ◌+ℤ◌, ◌*ℤ◌, ◌≤ℤ◌, Option, None, Some, List, length, slice_index}
+use Rattle.std.specs.Prelude.{◌≡◌, ◌==◌, ℕ, ◌<◌, ◌≤◌, ◌^◌, ◌+◌, nat_lt, not, ◌&&◌, ◌||◌, Bool, true, false, if◌then◌else◌, ℤ, pos, neg_ℤ, ◌+ℤ◌, ◌*ℤ◌, ◌≤ℤ◌, Option, None, Some, List, length, slice_index}
 use lib.Signed.{le_z, lt_z}
 use Rattle.path_graph.specs.declared.parts.Values.{Values}
 use Rattle.path_graph.specs.declared.set_bits.SetBits.{SetBits}

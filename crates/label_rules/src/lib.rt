@@ -17,7 +17,7 @@ pub use costs::labels_cost_as_walks;
 pub use dominance::{dominance_is_an_order, dominators_join, extensions_keep_dominance};
 pub use joins::{joins_cost_as_walks, walks_are_cut_anywhere};
 pub use label::Label;
-pub use leasts::{arcs_have_joins, arcs_above_are_unused, leasts_are_at_most, tables_cover};
+pub use leasts::{arcs_above_are_unused, arcs_have_joins, leasts_are_at_most, tables_cover};
 pub use memories::memories_meet;
 pub use spaces::{labels_are_lawful, levels_rise, tests_are_exact};
 pub use tables::{covers_have_labels, half_pairs_represent};
