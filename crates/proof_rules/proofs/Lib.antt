@@ -1,0 +1,10 @@
+pub mod GrowsLemmas
+pub mod TreeOrderLemmas
+pub mod SlotLemmas
+pub mod PruningLemmas
+pub mod WeightLemmas
+pub mod PrefixTreeLemmas
+pub mod CompleteLemmas
+pub mod WalkListLemmas
+pub mod GrowthLemmas
+pub mod CountLemmas
