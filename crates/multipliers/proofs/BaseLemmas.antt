@@ -1,12 +1,13 @@
 -- Steps of the loops that add terms up.
-use Rattle.std.proofs.Common.{◌≡◌, ℕ, ◌+◌, ◌*◌, ◌^◌, ◌≤◌, ℤ, pos, neg_ℤ, ◌+ℤ◌, ◌≤ℤ◌, ◌<◌, [], All, FitsSigned, to_z, of_z, w64, Option, Some, List, length, sym, ◌∙◌, ap, subst, refl, inl, inr, arith}
-use Rattle.std.specs.Prelude.{IsSome, slice_index}
+use Rattle.std.proofs.Common.{◌≡◌, ℕ, suc, ◌∷◌, ◌+◌, ◌*◌, ◌^◌, ◌≤◌, ℤ, pos, neg_ℤ, ◌+ℤ◌, ◌≤ℤ◌, ◌<◌, [], All, FitsSigned, to_z, of_z, w64, Option, Some, List, length, sym, ◌∙◌, ap, subst, refl, inl, inr, arith}
+use Rattle.std.specs.Prelude.{IsSome, slice_index, sum_by, unsigned_abs}
+use Rattle.std.proofs.lemmas.List.Sums.{sum_by-cons}
 use Rattle.std.specs.Int.{w128}
 use Rattle.std.proofs.lemmas.Bool.{cases_lt}
 use Rattle.std.proofs.lemmas.Int.{ints, to_z-of_z}
 use Rattle.std.proofs.lemmas.List.{get_or_default}
 use Rattle.path_graph.specs.Within.{IsWithin}
-use Rattle.path_graph.proofs.SumLemmas.{IsSumWithin, signed_loop_step}
+use Rattle.path_graph.proofs.SumLemmas.{IsSumWithin, signed_loop_step, within_abs}
 use Rattle.path_graph.specs.First.{EachBelow}
 use Rattle.path_graph.specs.Fit.{int_at}
 use Rattle.path_graph.specs.Sums.{sum_below}
@@ -24,7 +25,7 @@ use Rattle.route_model.specs.declared.places.Span.{Span}
 use Rattle.multipliers.specs.Quantities.{AreDefined, base, cut_at, term_of}
 use Rattle.route_model.specs.Terms.{Sides, sides_of, sides_of_row, term, up_to, or_zero}
 use Rattle.route_model.specs.Places.{BoxesFit, IsPartOf, path_span, span_at, var_span}
-use Rattle.multipliers.specs.Ranges.{IsNear}
+use Rattle.multipliers.specs.Ranges.{IsNear, PathsFit}
 use Rattle.multipliers.proofs.DualityLemmas.{all_quantities, defined_in}
 use Rattle.multipliers.proofs.PricedLemmas.{over_quantities}
 
@@ -119,6 +120,35 @@ paths_near m boxes fits are = all_near boxes.paths (length m.graphs) are.paths
     let graph : GraphParts = graph_in m.graphs g in
     let most : graph.ends.high ≤ 4096 = (fits.graphs.each g (graph_in [] 0) below).graph.fits.ends_fit.most_paths in
     near_in 4096 (path_span graph) (span_at boxes.paths g) (omega (arith, ints)) (omega (arith, ints, most)) (omega arith) (are.each_path g below))
+
+-- path counts within the model's sum to at most 4,096
+high_within : (whole : ℕ) (span : Span) → span.low ≤ℤ span.high → pos 0 ≤ℤ span.low → span.high ≤ℤ pos whole → unsigned_abs span.high ≤ whole
+high_within whole span order low high = within_abs whole span.high (omega (arith, ints, order, low), high)
+
+highs_few : (graphs : List GraphParts) (spans : List Span) → length spans ≡ length graphs → EachBelow (length graphs) (λ g. IsPartOf (path_span (graph_in graphs g)) (span_at spans g))
+    → sum_by (λ (span : Span). unsigned_abs span.high) spans ≤ sum_by (λ (g : GraphParts). g.ends.high) graphs
+highs_few [] [] count each = omega arith
+highs_few [] (span ∷ spans) count each = absurd (omega (arith, count))
+highs_few (g ∷ graphs) [] count each = absurd (omega (arith, count))
+highs_few (g ∷ graphs) (span ∷ spans) count each =
+    let here = each 0 (omega arith) in
+    let rest = highs_few graphs spans (omega (arith, count)) (λ k l. each (suc k) (omega (arith, l))) in
+    let high = high_within g.ends.high span here.1 (omega (arith, ints, here.0)) here.2 in
+    let one = sum_by-cons (λ (s : Span). unsigned_abs s.high) span spans in
+    let other = sum_by-cons (λ (h : GraphParts). h.ends.high) g graphs in
+    omega (arith, one, other, rest, high)
+
+all_paths : (graphs : List GraphParts) (spans : List Span) → length spans ≡ length graphs → EachBelow (length graphs) (λ g. IsPartOf (path_span (graph_in graphs g)) (span_at spans g))
+    → All (λ (span : Span). (pos 0 ≤ℤ span.low) × (span.low ≤ℤ span.high)) spans
+all_paths graphs spans count each k d below =
+    let here = each k (omega (arith, count, below)) in
+    subst (λ (span : Span). (pos 0 ≤ℤ span.low) × (span.low ≤ℤ span.high)) (get_or_default spans k (span_at [] 0) d below) (omega (arith, ints, here.0), here.1)
+
+pub paths_fit : (m : ModelParts) (boxes : Boxes) → ModelFits m → BoxesFit m boxes → PathsFit boxes.paths
+paths_fit m boxes fits are = record {
+  each = all_paths m.graphs boxes.paths are.paths are.each_path;
+  few = omega (arith, highs_few m.graphs boxes.paths are.paths are.each_path, fits.graphs.few_paths);
+}
 
 -- where no row needs an open side, nothing does
 pub all_defined : (m : ModelParts) (cuts : List Cut) (boxes : Boxes) (mult : Mult) → EachBelow (length m.rows) (λ i. IsSome (term_of m cuts boxes mult (OfRow i))) → AreDefined m cuts boxes mult

@@ -1,5 +1,5 @@
 -- How far reduced costs of units and arcs are from 0: what the limit on the coefficients of a variable is for.
-use Rattle.std.proofs.Common.{◌≡◌, ℕ, zero, suc, ◌+◌, ◌*◌, ◌^◌, ◌<◌, ◌≤◌, ◌==◌, ℤ, pos, ◌+ℤ◌, ◌-ℤ◌, Bool, true, false, List, [], ◌∷◌, All, length, map, take, get_or, unsigned_abs, mul-add, ap, subst, sym, ◌∙◌, arith}
+use Rattle.std.proofs.Common.{◌≡◌, ℕ, zero, suc, ◌+◌, ◌*◌, ◌^◌, ◌<◌, ◌≤◌, ◌==◌, ℤ, pos, neg_ℤ, ◌+ℤ◌, ◌-ℤ◌, Bool, true, false, List, [], ◌∷◌, All, length, map, take, get_or, unsigned_abs, mul-add, ap, subst, sym, ◌∙◌, arith}
 use Rattle.std.specs.Prelude.{if◌then◌else◌}
 use Rattle.std.proofs.lemmas.Int.{ints}
 use Rattle.std.proofs.lemmas.List.{take_all}
@@ -92,3 +92,7 @@ arcs_near m mult fits mults =
     All-map (All (IsWithin (2 ^ 72 + 2 ^ 53))) (map (sum_over (reduced_unit m mult))) m.maps
     (λ g d below. All-map (IsWithin (2 ^ 72 + 2 ^ 53)) (sum_over (reduced_unit m mult)) (get_or m.maps g d)
     (λ a e inside. vars_near m mult (get_or (get_or m.maps g d) a e) fits mults (all_maps_fit m fits g d below a e inside)))
+
+-- multipliers turned round
+pub turned_near : (mults : List ℤ) → All (IsWithin (2 ^ 48)) mults → All (IsWithin (2 ^ 48)) (map neg_ℤ mults)
+turned_near mults each = All-map (IsWithin (2 ^ 48)) neg_ℤ mults (λ k d below. let near = each k d below in (omega (arith, ints, near.1), omega (arith, ints, near.0)))

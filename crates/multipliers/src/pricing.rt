@@ -39,8 +39,8 @@ pub fn priced(
     ensures duality { IfOk result (BoundsCosts model.now cuts.now boxes.now mult.now) }
     ensures along { IfOk result (PricesArcs model.now cuts.now mult.now) }
     ensures range { IfOk result (AreInRange boxes.now) }
-    ensures arc { ArcsAddLittle model.now cuts.now mult.now }
-    ensures walk { PartialWalksStayNear model.now cuts.now mult.now }
+    ensures arc { IfOk result (λ p. ArcsAddLittle model.now cuts.now mult.now) }
+    ensures walk { IfOk result (λ p. PartialWalksStayNear model.now cuts.now mult.now) }
 {
     match base_of(model, boxes, cuts, mult) {
         Err(row) => Err(MultFault::OpenSide(Quantity::Row(row))),

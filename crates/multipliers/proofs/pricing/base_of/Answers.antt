@@ -15,7 +15,7 @@ returns-clause-base c =
     (sets_told c.set_terms-sets.result c.as_slice-5.result.now mult.sets m.sets c.as_slice-5.ensures c.requires.mult.sets c.set_terms-sets.ensures.sum)
     (cuts_told c.cut_terms-cuts.result c.as_slice-6.result.now mult.cuts c.args.cuts.now c.as_slice-6.ensures c.cut_terms-cuts.ensures.sum)
     (spans_told c.span_terms-paths.result c.as_slice-7.result.now mult.paths c.as_slice-8.result.now boxes.paths (length m.graphs) c.as_slice-7.ensures c.as_slice-8.ensures c.requires.boxes.paths c.span_terms-paths.ensures.sum)
-    c.total_of.ensures
+    c.total_of.ensures.total
 
 pub returns-clause-defined : goal.returns-clause-defined
 returns-clause-defined c =
