@@ -5,11 +5,16 @@ use Rattle.std.proofs.Math.IntN.{zero-*ℤ}
 use Rattle.std.proofs.lemmas.Bool.{cases_Bool, eq-eqb, cond-true, cond-false, ltb-true, ltb-false}
 use Rattle.std.proofs.lemmas.Int.{ints}
 use Rattle.std.proofs.lemmas.List.Elements.{All-nil, All-cons, All-filter, All-head, All-tail, All-weaker, filter_passes}
+use Rattle.path_graph.specs.Sums.{sum_over}
 use Rattle.path_graph.proofs.IntLemmas.{add-mul_z}
 use Rattle.route_model.specs.declared.plan.Plan.{Plan}
 use Rattle.route_model.specs.declared.plan.Taken.{Taken}
-use Rattle.proof_rules.specs.Counts.{AreAmong, AreCounts, CountMostLaw, CountsLaw, PlanOfLaw, Walk, paths_sum, walk_at, walk_of, with_counts}
+use Rattle.proof_rules.specs.Counts.{AreAmong, AreCounts, CountMostLaw, CountsLaw, PlanOfLaw, Walk, walk_at, walk_of, with_counts}
 use Rattle.proof_rules.proofs.WalkListLemmas.{contains_more}
+
+-- a signed quantity of walks, summed over paths, counts included
+abbrev pub paths_sum : (ℕ → List ℕ → ℤ) → List Taken → ℤ
+paths_sum of_walk paths = sum_over (λ t. pos t.count *ℤ of_walk t.graph t.arcs) paths
 
 -- so many times a number
 times_low : (n : ℕ) (k : ℤ) → pos 0 ≤ℤ k → pos 0 ≤ℤ (pos n *ℤ k)

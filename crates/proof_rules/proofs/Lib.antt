@@ -8,3 +8,10 @@ pub mod CompleteLemmas
 pub mod WalkListLemmas
 pub mod GrowthLemmas
 pub mod CountLemmas
+pub mod PlaceLemmas
+pub mod ProofLemmas
+pub mod FixLemmas
+pub mod CountNodeLemmas
+pub mod ListLemmas
+pub mod ValidLemmas
+pub mod FallLemmas

@@ -1,8 +1,9 @@
 -- Counts over a list of walks, and their plan.
-use Rattle.std.specs.Prelude.{◌≡◌, ℕ, ◌<◌, ◌≤◌, nat_lt, ℤ, pos, ◌*ℤ◌, ◌≤ℤ◌, List, [], ◌∷◌, length, filter, slice_index, slice_index_or, All, Contains}
-use Rattle.path_graph.specs.Sums.{sum_over}
+use Rattle.std.specs.Prelude.{◌≡◌, ℕ, ◌<◌, ◌≤◌, nat_lt, ℤ, pos, ◌≤ℤ◌, List, [], ◌∷◌, length, filter, slice_index, slice_index_or, All, Contains}
 use Rattle.route_model.specs.declared.plan.Plan.{Plan}
 use Rattle.route_model.specs.declared.plan.Taken.{Taken}
+use Rattle.route_model.specs.Parts.{plan_with}
+use Rattle.multipliers.specs.Quantities.{plan_sum}
 
 -- a walk of a graph
 pub record Walk : Type 0 where
@@ -14,10 +15,6 @@ walk_at walks i = slice_index_or walks i (record { graph = 0; arcs = [] })
 
 abbrev pub walk_of : Taken → Walk
 walk_of t = record { graph = t.graph; arcs = t.arcs }
-
--- a signed quantity of walks, summed over paths, counts included
-abbrev pub paths_sum : (ℕ → List ℕ → ℤ) → List Taken → ℤ
-paths_sum of_walk paths = sum_over (λ t. pos t.count *ℤ of_walk t.graph t.arcs) paths
 
 -- walks with their counts, and the plan of those that are taken
 abbrev pub with_counts : List Walk → List ℕ → List Taken
@@ -35,7 +32,7 @@ AreAmong walks paths = All (λ (t : Taken). Contains walks (walk_of t)) paths
 -- counts, one for each walk, that have as much of each quantity as a plan
 pub record AreCounts (walks : List Walk) (plan : Plan) (counts : List ℕ) : Type 0 where
   pub size : length counts ≡ length walks
-  pub same : (of_walk : ℕ → List ℕ → ℤ) → paths_sum of_walk (with_counts walks counts) ≡ paths_sum of_walk plan.paths
+  pub same : (of_walk : ℕ → List ℕ → ℤ) → plan_sum of_walk (plan_with (with_counts walks counts)) ≡ plan_sum of_walk plan
 
 -- a plan of listed walks has counts
 abbrev pub CountsLaw : Type 0
@@ -45,7 +42,7 @@ CountsLaw = (walks : List Walk) (plan : Plan) → AreAmong walks plan.paths → 
 pub record IsPlanOf (walks : List Walk) (counts : List ℕ) (plan : Plan) : Type 0 where
   pub some : All (λ (t : Taken). 1 ≤ t.count) plan.paths
   pub among : AreAmong walks plan.paths
-  pub same : (of_walk : ℕ → List ℕ → ℤ) → paths_sum of_walk plan.paths ≡ paths_sum of_walk (with_counts walks counts)
+  pub same : (of_walk : ℕ → List ℕ → ℤ) → plan_sum of_walk plan ≡ plan_sum of_walk (plan_with (with_counts walks counts))
 
 abbrev pub PlanOfLaw : Type 0
 PlanOfLaw = (walks : List Walk) (counts : List ℕ) → IsPlanOf walks counts (plan_of walks counts)
@@ -54,4 +51,4 @@ PlanOfLaw = (walks : List Walk) (counts : List ℕ) → IsPlanOf walks counts (p
 abbrev pub CountMostLaw : Type 0
 CountMostLaw = (walks : List Walk) (counts : List ℕ) (i : ℕ) (of_walk : ℕ → List ℕ → ℤ) → ((g : ℕ) (arcs : List ℕ) → pos 0 ≤ℤ (of_walk g arcs))
     → length counts ≡ length walks → i < length walks → pos 1 ≤ℤ (of_walk (walk_at walks i).graph (walk_at walks i).arcs)
-    → pos (slice_index counts i) ≤ℤ (paths_sum of_walk (with_counts walks counts))
+    → pos (slice_index counts i) ≤ℤ (plan_sum of_walk (plan_with (with_counts walks counts)))

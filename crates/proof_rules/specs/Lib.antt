@@ -6,3 +6,8 @@ pub mod Weights
 pub mod PrefixTrees
 pub mod PrefixLaws
 pub mod Counts
+pub mod Places
+pub mod Proofs
+pub mod Nodes
+pub mod Validity
+pub mod ValidLaws
