@@ -146,6 +146,7 @@ all_paths graphs spans count each k d below =
 
 pub paths_fit : (m : ModelParts) (boxes : Boxes) → ModelFits m → BoxesFit m boxes → PathsFit boxes.paths
 paths_fit m boxes fits are = record {
+  graphs = omega (arith, are.paths, fits.graphs.few);
   each = all_paths m.graphs boxes.paths are.paths are.each_path;
   few = omega (arith, highs_few m.graphs boxes.paths are.paths are.each_path, fits.graphs.few_paths);
 }
@@ -157,3 +158,7 @@ all_defined m cuts boxes mult rows =
     (λ j l. defined_in (int_at mult.vars j) (span_at boxes.vars j).low (span_at boxes.vars j).high) rows
     (λ s l. defined_in (int_at mult.sets s) (pos 0) (pos 1)) (λ c l. defined_in (neg_ℤ (pos (slice_index mult.cuts c))) (pos 0) (pos (right_side_of (cut_at cuts c))))
     (λ g l. defined_in (int_at mult.paths g) (span_at boxes.paths g).low (span_at boxes.paths g).high)
+
+-- five sums together
+pub five_small : (t a b c d e : ℤ) → IsWithin (2 ^ 104) a → IsWithin (2 ^ 104) b → IsWithin (2 ^ 104) c → IsWithin (2 ^ 104) d → IsWithin (2 ^ 104) e → t ≡ a +ℤ (b +ℤ (c +ℤ (d +ℤ e))) → IsWithin (2 ^ 107) t
+five_small t a b c d e p q r s u is = (omega (arith, ints, is, p.0, q.0, r.0, s.0, u.0), omega (arith, ints, is, p.1, q.1, r.1, s.1, u.1))

@@ -8,3 +8,4 @@ pub mod ArcLemmas
 pub mod NearLemmas
 pub mod RangeLemmas
 pub mod BaseLemmas
+pub mod RootLemmas

@@ -6,7 +6,7 @@ use Rattle.path_graph.specs.Within.{IsWithin}
 use Rattle.rank1_cuts.specs.declared.cut.Cut.{Cut}
 use Rattle.rank1_cuts.specs.Fit.{CutFits}
 use Rattle.path_graph.specs.declared.limits.TheConstants.{MAX_PATHS}
-use Rattle.route_model.specs.declared.limits.TheConstants.{MAX_MULT}
+use Rattle.route_model.specs.declared.limits.TheConstants.{MAX_GRAPHS, MAX_MULT}
 use Rattle.route_model.specs.declared.multipliers.Mult.{Mult}
 use Rattle.multipliers.specs.declared.base.TheConstants.{MAX_CUTS}
 use Rattle.route_model.specs.declared.multipliers.Priced.{Priced}
@@ -43,8 +43,9 @@ pub record AreUnits (m : ModelParts) (mult : Mult) (units : List ℤ) : Type 0 w
   pub each : EachBelow (length m.vars) (λ j. int_at units j ≡ reduced_unit m mult j)
   pub small : EachBelow (length m.vars) (λ j. IsWithin (2 ^ 102) (int_at units j))
 
--- boxes of path counts: none is empty or begins below 0, and their high ends sum to at most MAX_PATHS
+-- boxes of path counts: at most MAX_GRAPHS, none is empty or begins below 0, and their high ends sum to at most MAX_PATHS
 pub record PathsFit (spans : List Span) : Type 0 where
+  pub graphs : length spans ≤ MAX_GRAPHS
   pub each : All (λ span. (pos 0 ≤ℤ span.low) × (span.low ≤ℤ span.high)) spans
   pub few : sum_by (λ span. unsigned_abs span.high) spans ≤ MAX_PATHS
 

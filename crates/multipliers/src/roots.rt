@@ -27,13 +27,13 @@ pub fn root_spot(alloc: Global, model: &Model) -> Result<Spot, NoMemory>
 fn var_spans(alloc: Global, vars: &[Var]) -> Result<List<Span>, NoMemory>
     ensures { IfOk result (λ spans. spans ≡ map var_span vars.now) }
 {
-    let spans = vars
-        .iter()
-        .map(|var| Span {
+    let mut spans = Vec::new(alloc);
+    for var in vars {
+        spans.push(Span {
             low: var.low,
             high: var.high,
-        })
-        .collect(alloc)?;
+        })?;
+    }
     Ok(List::from_vec(spans))
 }
 
@@ -41,10 +41,10 @@ fn var_spans(alloc: Global, vars: &[Var]) -> Result<List<Span>, NoMemory>
 fn path_spans(alloc: Global, graphs: &[Graph]) -> Result<List<Span>, NoMemory>
     ensures { IfOk result (λ spans. spans ≡ map path_span graphs.now) }
 {
-    let spans = graphs
-        .iter()
-        .map(|graph| path_span_of(graph))
-        .collect(alloc)?;
+    let mut spans = Vec::new(alloc);
+    for graph in graphs {
+        spans.push(path_span_of(graph))?;
+    }
     Ok(List::from_vec(spans))
 }
 

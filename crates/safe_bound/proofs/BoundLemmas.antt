@@ -1,17 +1,19 @@
 -- The bound of a place, and the limit of a walk.
-use Rattle.std.proofs.Common.{◌≡◌, ◌≢◌, ℕ, zero, suc, ◌*◌, ◌<◌, ◌≤◌, ℤ, pos, ◌+ℤ◌, ◌-ℤ◌, ◌*ℤ◌, ◌≤ℤ◌, ◌<ℤ◌, int_le, Bool, true, false, ◌&&◌, ◌||◌, ◌==◌, Option, None, Some, List, [], ◌∷◌, length, All, refl, sym, ◌∙◌, ap, subst, arith}
+use Rattle.std.proofs.Common.{◌≡◌, ◌≢◌, ℕ, zero, suc, ◌*◌, ◌<◌, ◌≤◌, ℤ, pos, ◌+ℤ◌, ◌-ℤ◌, ◌*ℤ◌, ◌≤ℤ◌, ◌<ℤ◌, int_le, Bool, true, false, ◌&&◌, ◌||◌, ◌==◌, Option, None, Some, List, [], ◌∷◌, length, All, refl, sym, ◌∙◌, ap, subst, inl, inr, arith}
 use Rattle.std.specs.Prelude.{if◌then◌else◌, not}
 use Rattle.std.proofs.lemmas.Int.{by_lt_z, ints, clamps}
+use Rattle.std.proofs.lemmas.Bool.{cases_lt}
 use Rattle.std.proofs.lemmas.Bool.Decides.{nat_tests}
 use Rattle.std.proofs.lemmas.List.Sums.{sum_by-cons}
 use lib.IntN.{zero-*ℤ}
-use Rattle.path_graph.specs.First.{EachBelow}
+use Rattle.path_graph.specs.First.{EachBelow, IsFirstFault}
 use Rattle.path_graph.specs.Sums.{sum_below}
 use Rattle.path_graph.proofs.IntLemmas.{pos_mul-≤, times_choice, times_less, times_more, add_le, put_back}
-use Rattle.path_graph.proofs.SumLemmas.{sum_below-pick, sum_below-take, sum_below-≤}
+use Rattle.path_graph.proofs.SumLemmas.{sum_below-but, sum_below-pick, sum_below-take, sum_below-≤}
 use Rattle.rank1_cuts.specs.declared.cut.Cut.{Cut}
 use Rattle.rank1_cuts.specs.Fit.{CutFits}
 use Rattle.route_model.specs.declared.multipliers.Mult.{Mult}
+use Rattle.route_model.specs.declared.multipliers.Priced.{Priced}
 use Rattle.route_model.specs.declared.places.Boxes.{Boxes}
 use Rattle.route_model.specs.declared.places.Span.{Span}
 use Rattle.route_model.specs.declared.plan.Plan.{Plan}
@@ -25,7 +27,10 @@ use Rattle.route_model.proofs.ShutLemmas.{not_zero, paths_some}
 use Rattle.multipliers.specs.Quantities.{AreDefined, base, plan_sum, reduced_cost, scaled}
 use Rattle.multipliers.proofs.DualityLemmas.{below_quantity, term_in, weak_duality}
 use Rattle.multipliers.proofs.PlanSumLemmas.{plan_sum-add, plan_sum-same, plan_sum-≤}
-use Rattle.safe_bound.specs.Bounds.{AreLeasts, IsFrom, IsUpTo, all_above, are_possible_but, bound_of, graph_term, is_none, is_possible, least_at, limit_of, others, passes_below, terms_but}
+use Rattle.safe_bound.specs.declared.bounds.Bound.{Bound}
+use Rattle.safe_bound.specs.declared.bounds.Bound.TheVariants.{Value, NoPaths}
+use Rattle.safe_bound.specs.Promise.{BoundHolds, LimitHolds}
+use Rattle.safe_bound.specs.Bounds.{AreLeasts, IsBound, IsFrom, IsUpTo, all_above, are_possible_but, bound_of, graph_term, is_none, is_possible, least_at, limit_of, others, passes_below, terms_but}
 
 -- a test that passes at each number
 pub passes_each : (n : ℕ) (test : ℕ → Bool) → EachBelow n (λ k. test k ≡ true) → passes_below n test ≡ true
@@ -136,6 +141,38 @@ bound_holds m cuts boxes mult leasts plan fits cut_fits s defined from =
     let go = passes_each (length m.graphs) (λ g. is_possible (least_at leasts g) (span_at boxes.paths g)) (solution_possible m cuts boxes mult leasts plan s from) in
     rw go (bound_sum m cuts boxes mult leasts plan fits cut_fits s defined from)
 
+-- what code tells of the bound
+apart_from : (g n : ℕ) (b : Bool) → g < n → ((g == n) || b) ≡ true → b ≡ true
+apart_from g n b below e = let no : (g == n) ≡ false = grind (arith, nat_tests) in ap (λ (t : Bool). t || b) (sym no) ∙ e
+
+or_true : (a b : Bool) → b ≡ true → (a || b) ≡ true
+or_true true b e = refl
+or_true false b e = e
+
+pub bound_made : (n : ℕ) (spans : List Span) (leasts : List (Option ℤ)) (base b : ℤ) → EachBelow n (λ g. ((g == n) || is_possible (least_at leasts g) (span_at spans g)) ≡ true)
+    → b ≡ base +ℤ terms_but n spans leasts n → bound_of n spans leasts base ≡ Some b
+bound_made n spans leasts base b each is =
+    let go = passes_each n (λ g. is_possible (least_at leasts g) (span_at spans g)) (λ g l. apart_from g n (is_possible (least_at leasts g) (span_at spans g)) l (each g l)) in
+    let same : terms_but n spans leasts n ≡ sum_below n (λ g. graph_term (least_at leasts g) (span_at spans g)) = sum_below-but (λ g. graph_term (least_at leasts g) (span_at spans g)) n n (omega arith) in
+    let value : b ≡ base +ℤ sum_below n (λ g. graph_term (least_at leasts g) (span_at spans g)) = is ∙ ap (λ (x : ℤ). base +ℤ x) same in
+    rw go (ap (λ (x : ℤ). Some x) (sym value))
+
+pub first_made : (n : ℕ) (spans : List Span) (leasts : List (Option ℤ)) (g : ℕ) → IsFirstFault n (λ h. ((h == n) || is_possible (least_at leasts h) (span_at spans h)) ≡ true) g
+    → IsFirstFault n (λ h. is_possible (least_at leasts h) (span_at spans h) ≡ true) g
+first_made n spans leasts g first = record {
+  within = first.within;
+  fails = λ e. first.fails (or_true (g == n) (is_possible (least_at leasts g) (span_at spans g)) e);
+  before = λ k l. apart_from k n (is_possible (least_at leasts k) (span_at spans k)) (omega (arith, l, first.within)) (first.before k l);
+}
+
+pub bound_told : (priced : Priced) (boxes : Boxes) (leasts : List (Option ℤ)) (bound : Bound) → IsBound boxes.paths leasts priced.base bound → BoundHolds priced boxes leasts bound
+bound_told priced boxes leasts (Value b) is m cuts mult plan fits cut_fits count are solves from =
+    let holds = bound_holds m cuts boxes mult leasts plan fits cut_fits solves are.defined from in
+    let same : bound_of (length m.graphs) boxes.paths leasts (base m cuts boxes mult) ≡ Some b = (λ i. bound_of (sym count i) boxes.paths leasts (sym are.base i)) ∙ is in
+    subst (λ (o : Option ℤ). IsFrom o (scaled (cost_of m plan))) same holds
+bound_told priced boxes leasts (NoPaths g) is m cuts mult plan fits cut_fits count are solves from =
+    is.fails (solution_possible m cuts boxes mult leasts plan solves from g (omega (arith, is.within, count)))
+
 -- a path and, at their leasts, the other paths
 walk_and_leasts : (f : ℕ → List ℕ → ℤ) (a : ℕ → ℤ) (n : ℕ) (plan : Plan) (i : ℕ) → EachBelow (length plan.paths) (λ k. a (taken_at plan.paths k).graph ≤ℤ f (taken_at plan.paths k).graph (taken_at plan.paths k).arcs)
     → EachBelow (length plan.paths) (λ k. (taken_at plan.paths k).graph < n) → i < length plan.paths → 1 ≤ (taken_at plan.paths i).count
@@ -179,10 +216,6 @@ some_none : (least : Option ℤ) (x : ℤ) → IsFrom least x → is_none least 
 some_none None x from = absurd from
 some_none (Some l) x from = refl
 
-or_true : (a b : Bool) → b ≡ true → (a || b) ≡ true
-or_true true b e = refl
-or_true false b e = e
-
 not_above : (m : ModelParts) (cuts : List Cut) (boxes : Boxes) (mult : Mult) (leasts : List (Option ℤ)) (plan : Plan) (i : ℕ) → SolvesWithin m boxes plan → AreLeasts m cuts mult leasts plan → i < length plan.paths
     → all_above (length m.graphs) boxes.paths leasts (taken_at plan.paths i).graph ≡ false
 not_above m cuts boxes mult leasts plan i s from below =
@@ -215,6 +248,32 @@ limit_holds m cuts boxes mult leasts plan z fits cut_fits s defined from cheap i
   where
     joined : (x b f c z n r o least : ℤ) → (b +ℤ f) ≤ℤ c → c ≤ℤ z → (x +ℤ n) ≤ℤ (f +ℤ least) → ((r +ℤ o) +ℤ least) ≤ℤ n → x ≤ℤ (z -ℤ b -ℤ o -ℤ r)
     joined x b f c z n r o least h k w t = omega (arith, ints)
+
+pub limit_told : (priced : Priced) (boxes : Boxes) (leasts : List (Option ℤ)) (g : ℕ) (z : ℤ) (limit : Option ℤ) → limit ≡ limit_of (length boxes.paths) boxes.paths leasts priced.base g z → LimitHolds priced boxes leasts g z limit
+limit_told priced boxes leasts g z limit is m cuts mult plan i fits cut_fits count are solves from cheap below of_g =
+    let holds = limit_holds m cuts boxes mult leasts plan z fits cut_fits solves are.defined from cheap i below in
+    let same : limit_of (length m.graphs) boxes.paths leasts (base m cuts boxes mult) (taken_at plan.paths i).graph z ≡ limit = (λ k. limit_of (sym count k) boxes.paths leasts (sym are.base k) (of_g k) z) ∙ sym is in
+    subst (λ (h : ℕ). IsUpTo limit (reduced_cost m cuts mult h (taken_at plan.paths i).arcs)) of_g
+    (subst (λ (o : Option ℤ). IsUpTo o (reduced_cost m cuts mult (taken_at plan.paths i).graph (taken_at plan.paths i).arcs)) same holds)
+
+-- the limit as code makes it
+pub passes_fails : (n : ℕ) (test : ℕ → Bool) (k : ℕ) → k < n → (test k ≡ true → ⊥) → passes_below n test ≡ false
+passes_fails zero test k below fails = absurd (omega (arith, below))
+passes_fails (suc n) test k below fails = elim (cases_lt k n) [
+  | inl less ↦ ap (λ (b : Bool). b && test n) (passes_fails n test k less fails)
+  | inr least ↦ let same : k ≡ n = omega arith in last (passes_below n test) (test n) (subst (λ (i : ℕ). test i ≡ true → ⊥) same fails)
+]
+  where
+    last : (a b : Bool) → (b ≡ true → ⊥) → (a && b) ≡ false
+    last a true h = absurd (h refl)
+    last true false h = refl
+    last false false h = refl
+
+-- where some walk may be within the limit, there may be a path
+pub some_paths : (p none : Bool) (span : Span) → (not p || (none || ends_at_zero span)) ≡ false → pos 1 ≤ℤ span.high
+some_paths true false span e = grind (arith, ints, e)
+some_paths true true span e = absurd (let h : true ≡ false = e in cc)
+some_paths false none span e = absurd (let h : true ≡ false = e in cc)
 
 -- what closes leaves no plan below z
 pub scaled_apart : (z cost bound : ℤ) → scaled (z -ℤ pos 1) <ℤ bound → bound ≤ℤ scaled cost → z ≤ℤ cost

@@ -1,5 +1,6 @@
 -- What a bound and a limit promise, and the ranges of leasts, bounds and limits.
-use Rattle.std.specs.Prelude.{◌≡◌, ℕ, ◌<◌, ◌^◌, ℤ, ◌≤ℤ◌, ◌<ℤ◌, Option, IfSome, List, length, All}
+use Rattle.std.specs.Prelude.{◌≡◌, ℕ, ◌<◌, ◌^◌, ℤ, pos, ◌≤ℤ◌, ◌<ℤ◌, Option, IfSome, List, length, All}
+use Rattle.path_graph.specs.declared.limits.TheConstants.{MAX_PATHS}
 use Rattle.path_graph.specs.Within.{IsWithin}
 use Rattle.rank1_cuts.specs.declared.cut.Cut.{Cut}
 use Rattle.rank1_cuts.specs.Fit.{CutFits}
@@ -25,6 +26,12 @@ IsLeastNear least = IfSome least (IsWithin (2 ^ 112))
 pub record LeastsFit (spans : List Span) (leasts : List (Option ℤ)) : Type 0 where
   pub count : length leasts ≡ length spans
   pub each : All IsLeastNear leasts
+
+-- a box of a path count: not empty, not below 0, and up to MAX_PATHS at most
+pub record IsCountBox (span : Span) : Type 0 where
+  pub low : pos 0 ≤ℤ span.low
+  pub order : span.low ≤ℤ span.high
+  pub high : IsWithin MAX_PATHS span.high
 
 -- a bound within 2^125 of 0, if there is one
 abbrev pub IsBoundNear : Bound → Type 0

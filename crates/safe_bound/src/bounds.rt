@@ -1,12 +1,13 @@
-ghost use Rattle.std.specs.Prelude.{◌≡◌, ◌↔◌, ◌≤ℤ◌, ◌-ℤ◌, ◌*ℤ◌, ℤ, pos, IsTrue};
+ghost use Rattle.std.specs.Prelude.{◌≡◌, ◌↔◌, ◌^◌, ◌≤ℤ◌, ◌-ℤ◌, ℤ, pos, IsTrue};
+ghost use Rattle.path_graph.specs.Within.{IsWithin};
 ghost use Rattle.multipliers.specs.Quantities.{scaled};
-ghost use Rattle.multipliers.specs.Ranges.{AreInRange};
+ghost use Rattle.multipliers.specs.Ranges.{AreInRange, PathsFit};
 ghost use Rattle.safe_bound.specs.Bounds.{Closes, IsBound, IsUnder};
 ghost use Rattle.safe_bound.specs.Promise.{BoundHolds, IsBoundNear, LeastsFit};
 
 use crate::graphs::{first_impossible, term_sum};
-use route_model::wide::{added, lessened};
-use route_model::{Boxes, Priced};
+use route_model::wide::{added, lessened, product};
+use route_model::{Boxes, Priced, SCALE, Span};
 
 /// The bound of a place, or the first graph that has no walk and must have a path.
 #[derive(Clone, Copy, Debug, PartialEq, Eq)]
@@ -28,10 +29,20 @@ pub fn bound_value(priced: &Priced, boxes: &Boxes, leasts: &[Option<i128>]) -> B
     ensures range { IsBoundNear result }
     ensures holds { BoundHolds priced.now boxes.now leasts.now result }
 {
-    let spans = boxes.paths.as_slice();
+    bound_from(boxes.paths.as_slice(), priced.base, leasts)
+}
+
+/// The bound from the sum of the terms and the boxes of the path counts.
+fn bound_from(spans: &[Span], base: i128, leasts: &[Option<i128>]) -> Bound
+    requires base { IsWithin (2 ^ 107) base }
+    requires paths { PathsFit spans.now }
+    requires leasts { LeastsFit spans.now leasts.now }
+    ensures bound { IsBound spans.now leasts.now base result }
+    ensures range { IsBoundNear result }
+{
     match first_impossible(spans, leasts, spans.len()) {
         Some(g) => Bound::NoPaths(g),
-        None => Bound::Value(added(priced.base, term_sum(spans, leasts, spans.len()))),
+        None => Bound::Value(added(base, term_sum(spans, leasts, spans.len()))),
     }
 }
 
@@ -49,7 +60,8 @@ pub fn closes(bound: &Bound, z: i64) -> bool
 
 /// 65,536 × (z - 1).
 pub(crate) fn scaled_below(z: i64) -> i128
-    ensures { result ≡ scaled (z -ℤ pos 1) }
+    ensures scaled { result ≡ scaled (z -ℤ pos 1) }
+    ensures range { IsWithin (2 ^ 80) result }
 {
-    65_536 * lessened(i128::from(z), 1)
+    lessened(product(SCALE, z), i128::from(SCALE))
 }

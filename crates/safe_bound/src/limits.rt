@@ -1,12 +1,12 @@
-ghost use Rattle.std.specs.Prelude.{◌≡◌, ◌<◌, ◌^◌, ◌-ℤ◌, ◌≤ℤ◌, IfSome, length, pos};
+ghost use Rattle.std.specs.Prelude.{◌≡◌, ◌<◌, ◌^◌, ◌-ℤ◌, ◌≤ℤ◌, ◌||◌, IfSome, length, pos};
+ghost use Rattle.route_model.specs.Places.{ends_at_zero};
 ghost use Rattle.path_graph.specs.Within.{IsWithin};
-ghost use Rattle.multipliers.specs.Quantities.{scaled};
-ghost use Rattle.multipliers.specs.Ranges.{AreInRange};
-ghost use Rattle.safe_bound.specs.Bounds.{limit_of, others as others_of};
-ghost use Rattle.safe_bound.specs.Promise.{LeastsFit, LimitHolds};
+ghost use Rattle.multipliers.specs.Ranges.{AreInRange, PathsFit};
+ghost use Rattle.safe_bound.specs.Bounds.{all_above, is_none, limit_of, others as others_of};
+ghost use Rattle.safe_bound.specs.Promise.{IsCountBox, LeastsFit, LimitHolds};
 
 use crate::bounds::scaled_below;
-use crate::graphs::{first_impossible, graph_term, term_sum};
+use crate::graphs::{are_possible, graph_term, term_sum};
 use route_model::wide::lessened;
 use route_model::{Boxes, Priced, Span};
 
@@ -31,25 +31,53 @@ pub fn walk_limit(
     ensures range { IfSome result (IsWithin (2 ^ 126)) }
     ensures holds { LimitHolds priced.now boxes.now leasts.now g z result }
 {
-    let spans = boxes.paths.as_slice();
-    let place = g as usize;
-    let span = spans[place];
-    if leasts[place].is_none() || span.high <= 0 {
+    limit_from(boxes.paths.as_slice(), priced.base, leasts, g as usize, z)
+}
+
+/// The limit from the sum of the terms and the boxes of the path counts.
+fn limit_from(
+    spans: &[Span],
+    base: i128,
+    leasts: &[Option<i128>],
+    g: usize,
+    z: i64,
+) -> Option<i128>
+    requires base { IsWithin (2 ^ 107) base }
+    requires paths { PathsFit spans.now }
+    requires leasts { LeastsFit spans.now leasts.now }
+    requires graph { g < length spans.now }
+    ensures limit { result ≡ limit_of (length spans.now) spans.now leasts.now base g z }
+    ensures range { IfSome result (IsWithin (2 ^ 126)) }
+{
+    if are_above(spans, leasts, g) {
         return None;
     }
-    if first_impossible(spans, leasts, place).is_some() {
-        return None;
-    }
-    let beside = term_sum(spans, leasts, place);
-    let own = graph_term(leasts[place], others(span));
-    Some(less_all(scaled_below(z), priced.base, beside, own))
+    let beside = term_sum(spans, leasts, g);
+    let own = graph_term(leasts[g], others(spans[g]));
+    Some(less_all(scaled_below(z), base, beside, own))
+}
+
+/// Whether every walk of a graph is above the limit.
+fn are_above(spans: &[Span], leasts: &[Option<i128>], g: usize) -> bool
+    requires paths { PathsFit spans.now }
+    requires leasts { LeastsFit spans.now leasts.now }
+    requires graph { g < length spans.now }
+    ensures { result ≡ all_above (length spans.now) spans.now leasts.now g }
+{
+    !are_possible(spans, leasts, g) || has_no_walk(leasts[g], spans[g])
+}
+
+/// Whether a graph has no least, or may have no path.
+fn has_no_walk(least: Option<i128>, span: Span) -> bool
+    ensures { result ≡ (is_none least || ends_at_zero span) }
+{
+    least.is_none() || span.high <= 0
 }
 
 /// How many paths there may be beside one.
 fn others(span: Span) -> Span
-    requires order { span.low ≤ℤ span.high }
-    requires high { IsWithin 4096 span.high }
-    requires low { pos 0 ≤ℤ span.low }
+    requires span { IsCountBox span }
+    requires some { pos 1 ≤ℤ span.high }
     ensures { result ≡ others_of span }
 {
     Span {
