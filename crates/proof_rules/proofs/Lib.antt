@@ -15,3 +15,4 @@ pub mod CountNodeLemmas
 pub mod ListLemmas
 pub mod ValidLemmas
 pub mod FallLemmas
+pub mod OpenTreeLemmas

@@ -81,7 +81,7 @@ no_marks m g a = at m.graphs g
     at (g ∷ graphs) zero = none g.arcs a
     at (g ∷ graphs) (suc k) = at graphs k
 
-at_root : (m : ModelParts) (plan : Plan) → ModelFits m → IsSolution m plan → SolvesAt m (root_place m) plan
+pub at_root : (m : ModelParts) (plan : Plan) → ModelFits m → IsSolution m plan → SolvesAt m (root_place m) plan
 at_root m plan fits solution = record {
   within = record {
     solution = solution;

@@ -11,3 +11,5 @@ pub mod Proofs
 pub mod Nodes
 pub mod Validity
 pub mod ValidLaws
+pub mod OpenTrees
+pub mod NodeWalls
