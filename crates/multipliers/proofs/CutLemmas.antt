@@ -1,6 +1,6 @@
 -- A solution keeps each cut that fits: its walks visit no packing set twice.
 use Rattle.std.proofs.Common.{◌≡◌, ℕ, suc, ◌*◌, ◌<◌, ◌≤◌, List, [], ◌∷◌, length, map, Bool, true, false, cond, Option, None, Some, All, ◌==◌, refl, ap, arith, inl, inr}
-use Rattle.std.specs.Prelude.{count_by, IfSome}
+use Rattle.std.specs.Prelude.{IfSome}
 use Rattle.std.proofs.lemmas.Bool.{cases_lt}
 use Rattle.std.proofs.lemmas.Bool.Decides.{nat_tests}
 use Rattle.std.proofs.lemmas.List.{get_or_past}
@@ -12,7 +12,7 @@ use Rattle.path_graph.specs.Visits.{is_visit, visit_count, visit_over, visits_al
 use Rattle.path_graph.specs.Walk.{GraphParts, arc_at}
 use Rattle.rank1_cuts.specs.declared.cut.Cut.{Cut}
 use Rattle.rank1_cuts.specs.Fit.{CutFits, right_side_of}
-use Rattle.rank1_cuts.specs.Solutions.{TakenWalk, VisitEachOnce, coef_in, is_visit as is_visit_of, visits_in as visits_of_walks}
+use Rattle.rank1_cuts.specs.Solutions.{TakenWalk, VisitEachOnce, coef_in, visits_in as visits_of_walks}
 use Rattle.rank1_cuts.specs.Visits.{coef_of}
 use Rattle.rank1_cuts.proofs.SolutionLemmas.{solution_keeps}
 use Rattle.route_model.specs.declared.plan.Plan.{Plan}
@@ -26,22 +26,12 @@ use Rattle.route_model.specs.Solution.{IsPath, IsSolution}
 abbrev walks_of : List GraphParts → List Taken → List TakenWalk
 walks_of graphs paths = map (λ t. (t.count, visits_along (graph_in graphs t.graph) t.arcs)) paths
 
--- a visit of a set, in the words of cuts and of walks
-visit_is : (s : ℕ) (v : Option ℕ) → is_visit_of s v ≡ is_visit s v
-visit_is s None = refl
-visit_is s (Some i) = grind (arith, nat_tests)
-
-visits_are : (s : ℕ) (visits : List (Option ℕ)) → count_by (is_visit_of s) visits ≡ visit_count s visits
-visits_are s visits = λ i. count_by (λ v. visit_is s v i) visits
-
 visits_of_walks-is : (m : ModelParts) (s : ℕ) (paths : List Taken) → visits_of_walks (walks_of m.graphs paths) s ≡ quantity (visits_in m.graphs s) (plan_with paths)
 visits_of_walks-is m s [] = refl
 visits_of_walks-is m s (t ∷ paths) =
-    let g = graph_in m.graphs t.graph in
-    let walks = sum_by-cons (λ (w : TakenWalk). w.0 * count_by (is_visit_of s) w.1) (t.count, visits_along g t.arcs) (walks_of m.graphs paths) in
+    let walks = sum_by-cons (λ (w : TakenWalk). w.0 * visit_count s w.1) (t.count, visits_along (graph_in m.graphs t.graph) t.arcs) (walks_of m.graphs paths) in
     let taken = sum_by-cons (λ (u : Taken). u.count * visits_in m.graphs s u.graph u.arcs) t paths in
-    let here = ap (λ (n : ℕ). t.count * n) (visits_are s (visits_along g t.arcs)) in
-    omega (arith, walks, taken, here, visits_of_walks-is m s paths)
+    omega (arith, walks, taken, visits_of_walks-is m s paths)
 
 coef_in-is : (m : ModelParts) (cut : Cut) (paths : List Taken) → coef_in cut (walks_of m.graphs paths) ≡ quantity (λ g arcs. coef_of cut (visits_along (graph_in m.graphs g) arcs)) (plan_with paths)
 coef_in-is m cut [] = refl

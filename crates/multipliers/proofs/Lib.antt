@@ -9,3 +9,4 @@ pub mod NearLemmas
 pub mod RangeLemmas
 pub mod BaseLemmas
 pub mod RootLemmas
+mod Examples

@@ -1,16 +1,22 @@
--- What priced multipliers promise: weak duality, the law along arcs, and that no sum along arcs leaves 128 bits.
-use Rattle.std.specs.Prelude.{◌≡◌, ℕ, ◌+◌, ◌<◌, ◌^◌, ◌+ℤ◌, ◌-ℤ◌, ◌≤ℤ◌, unsigned_abs, List, [], ◌∷◌, ◌++◌, length}
+-- What priced multipliers promise: weak duality, the law along arcs, and that no sum along arcs leaves 128 bits; and that
+-- solutions keep cuts.
+use Rattle.std.specs.Prelude.{◌≡◌, ℕ, ◌+◌, ◌<◌, ◌≤◌, ◌^◌, ◌+ℤ◌, ◌-ℤ◌, ◌≤ℤ◌, unsigned_abs, List, [], ◌∷◌, ◌++◌, length}
 use Rattle.path_graph.specs.declared.parts.Values.{Values}
 use Rattle.path_graph.specs.Rest.{IsPartial}
+use Rattle.path_graph.specs.Visits.{visits_along}
 use Rattle.path_graph.specs.Walk.{Leads}
 use Rattle.rank1_cuts.specs.declared.cut.Cut.{Cut}
+use Rattle.rank1_cuts.specs.Fit.{CutFits, right_side_of}
+use Rattle.rank1_cuts.specs.Visits.{coef_of}
 use Rattle.route_model.specs.declared.multipliers.Mult.{Mult}
 use Rattle.route_model.specs.declared.multipliers.Priced.{Priced}
 use Rattle.route_model.specs.declared.places.Boxes.{Boxes}
 use Rattle.route_model.specs.declared.plan.Plan.{Plan}
+use Rattle.route_model.specs.Fit.{ModelFits}
 use Rattle.route_model.specs.Parts.{ModelParts, graph_in}
 use Rattle.route_model.specs.Places.{SolvesWithin}
-use Rattle.route_model.specs.Quantities.{cost_of}
+use Rattle.route_model.specs.Quantities.{cost_of, quantity}
+use Rattle.route_model.specs.Solution.{IsSolution}
 use Rattle.multipliers.specs.Priced.{cuts_cost, priced_walk}
 use Rattle.multipliers.specs.Quantities.{plan_sum, reduced_cost, scaled}
 
@@ -38,3 +44,8 @@ abbrev pub PartialWalksStayNear : ModelParts → List Cut → Mult → Type 0
 PartialWalksStayNear m cuts mult =
     (g w : ℕ) (arcs : List ℕ) (value : Values) → g < length m.graphs → IsPartial (graph_in m.graphs g) arcs w value
     → unsigned_abs (reduced_cost m cuts mult g arcs) < 2 ^ 112
+
+-- every solution keeps every cut that fits, whatever its memory: the coefficients of its walks sum to at most the right side
+abbrev pub SolutionsKeepCutsLaw : Type 0
+SolutionsKeepCutsLaw = (m : ModelParts) (cut : Cut) (plan : Plan) → ModelFits m → CutFits cut → IsSolution m plan
+    → quantity (λ g arcs. coef_of cut (visits_along (graph_in m.graphs g) arcs)) plan ≤ right_side_of cut

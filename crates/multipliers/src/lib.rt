@@ -10,5 +10,5 @@ mod roots;
 mod units;
 
 pub use base::MAX_CUTS;
-pub use pricing::priced;
+pub use pricing::{priced, solutions_keep_cuts};
 pub use roots::root_spot;

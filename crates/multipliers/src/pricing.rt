@@ -4,7 +4,7 @@ ghost use Rattle.path_graph.specs.Within.{IsWithin};
 ghost use Rattle.route_model.specs.Fit.{ModelFits};
 ghost use Rattle.route_model.specs.Places.{BoxesFit};
 ghost use Rattle.multipliers.specs.Priced.{IsMultFault, IsOpenRow, IsPriced, reduced_unit};
-ghost use Rattle.multipliers.specs.Promise.{ArcsAddLittle, BoundsCosts, PartialWalksStayNear, PricesArcs};
+ghost use Rattle.multipliers.specs.Promise.{ArcsAddLittle, BoundsCosts, PartialWalksStayNear, PricesArcs, SolutionsKeepCutsLaw};
 ghost use Rattle.multipliers.specs.Quantities.{AreDefined, base};
 ghost use Rattle.multipliers.specs.Ranges.{AreInRange, CutsFit, MultFits};
 
@@ -50,6 +50,11 @@ pub fn priced(
         },
     }
 }
+
+/// Every solution keeps every cut that fits, whatever its memory.
+pub fn solutions_keep_cuts()
+    ensures { SolutionsKeepCutsLaw }
+{}
 
 /// What each arc, each visit and each start costs, beside the base.
 fn costs_of(alloc: Global, model: &Model, mult: &Mult, base: i128) -> Result<Priced, NoMemory>
