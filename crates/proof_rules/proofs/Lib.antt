@@ -16,3 +16,4 @@ pub mod ListLemmas
 pub mod ValidLemmas
 pub mod FallLemmas
 pub mod OpenTreeLemmas
+pub mod ListWallLemmas

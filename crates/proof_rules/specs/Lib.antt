@@ -13,3 +13,4 @@ pub mod Validity
 pub mod ValidLaws
 pub mod OpenTrees
 pub mod NodeWalls
+pub mod ListWalls

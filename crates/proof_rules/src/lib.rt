@@ -11,7 +11,10 @@ mod slot;
 mod valid;
 
 pub use counts::{counts_have_plans, plans_have_counts};
-pub use open::{open_values_bound_solutions, rounding_keeps_bounds, walls_bound_solutions};
+pub use open::{
+    list_walls_show_walks, open_values_bound_solutions, rounding_keeps_bounds,
+    walls_bound_solutions,
+};
 pub use places::{labels_cost_as_reduced, proofs_bound_places, walks_are_admitted};
 pub use prefixes::{
     complete_trees_list_walks, nodes_have_one_prefix, prefixes_go_on, prefixes_have_labels,

@@ -1,3 +1,4 @@
+ghost use Rattle.proof_rules.specs.ListWalls.{ListWallLaw};
 ghost use Rattle.proof_rules.specs.NodeWalls.{OpenValueLaw, WallBoundLaw, WallTreeLaw};
 ghost use Rattle.proof_rules.specs.OpenTrees.{RoundedUpLaw};
 
@@ -16,4 +17,9 @@ pub fn open_values_bound_solutions()
 pub fn walls_bound_solutions()
     ensures tree { WallTreeLaw }
     ensures bound { WallBoundLaw }
+{}
+
+/// Where a list of walks stops at a limit of labels, there are more different feasible partial walks than the limit.
+pub fn list_walls_show_walks()
+    ensures { ListWallLaw }
 {}
