@@ -1,11 +1,11 @@
 -- Lemmas on levels: they rise over each arc and lie within stated ends, so partial walks are short.
-use Rattle.std.proofs.Common.{◌≡◌, ℕ, ◌<◌, ◌≤◌, ◌*◌, inl, inr, ◌⊎◌, ℤ, pos, ◌≤ℤ◌, ◌+ℤ◌, ◌*ℤ◌, List, [], ◌∷◌, length, refl, ap, arith, Bool, true, false, ◌&&◌, zero, suc, ◌^◌, unsigned_abs}
+use Rattle.std.proofs.Common.{◌≡◌, ℕ, ◌<◌, ◌≤◌, ◌*◌, inl, inr, ◌⊎◌, ℤ, pos, ◌≤ℤ◌, ◌+ℤ◌, ◌-ℤ◌, ◌*ℤ◌, List, [], ◌∷◌, length, refl, sym, ◌∙◌, subst, ap, arith, Bool, true, false, ◌&&◌, zero, suc, ◌^◌, unsigned_abs}
 use Rattle.std.proofs.lemmas.Int.{ints, clamps}
 use Rattle.std.proofs.lemmas.Bool.{cases_lt}
 use Rattle.std.specs.Bool.{Decides}
 use Rattle.std.proofs.Math.IntN.{suc_ℤ-*ℤ, zero-*ℤ}
 use Rattle.std.proofs.lemmas.Bool.Decides.{Decides-int_eq}
-use Rattle.std.specs.Int.{int_max}
+use Rattle.std.specs.Int.{int_max, int_min}
 use Rattle.std.specs.Ordering.{int_eq}
 use mir.Val.{to_z, of_z}
 use Rattle.std.specs.Int.{w64}
@@ -14,7 +14,8 @@ use Rattle.path_graph.specs.declared.parts.GraphArc.{GraphArc}
 use Rattle.path_graph.specs.Fit.{int_at, window_at, vertex_at, is_used_at, NeedFits, ArcFits}
 use Rattle.path_graph.specs.Free.{is_free, rank_of}
 use Rattle.path_graph.specs.Walk.{GraphParts, IsGraph, arc_at, Leads, Passes, over_of, root_of, values_at_end}
-use Rattle.path_graph.specs.Within.{AreWithin, IsWithin}
+use Rattle.path_graph.specs.Rest.{back_of}
+use Rattle.path_graph.specs.Within.{AreWithin, IsInLimits, IsWithin}
 use Rattle.path_graph.specs.Level.{level_of}
 use Rattle.path_graph.proofs.WalkLemmas.{small_values, root_is_within, within_at_end, end_within}
 use Rattle.path_graph.proofs.SumLemmas.{product_within}
@@ -58,6 +59,10 @@ free_cases arc h k = tested (int_eq (int_at arc.needs 0) (pos 0)) (int_eq (int_a
 over_above : (x q low : ℤ) → (x +ℤ q) ≤ℤ (int_max low (x +ℤ q))
 over_above x q low = omega (arith, ints, clamps)
 
+-- a value and the need back over an arc are no more than the value
+back_below : (x q high : ℤ) → ((int_min high (x -ℤ q)) +ℤ q) ≤ℤ x
+back_below x q high = omega (arith, ints, clamps)
+
 times_more : (n : ℕ) (x : ℤ) → pos (suc n) *ℤ x ≡ pos n *ℤ x +ℤ x
 times_more n x = suc_ℤ-*ℤ (pos n) x
 
@@ -93,6 +98,18 @@ level_rises g a value graph l =
       | inr q ↦ mixed_above (length g.vertices) (rank_of g arc.tail) (rank_of g arc.head) (int_at value.at 0 +ℤ int_at value.at 1) (int_at (over_of g value a).at 0 +ℤ int_at (over_of g value a).at 1) (rank_below g arc.tail graph fits.tail) (omega (arith, ints, up 0, up 1, q))
     ]
 
+-- the level of backward values falls back over each arc
+pub level_falls : (g : GraphParts) (a : ℕ) (value : Values) → IsGraph g → a < length g.arcs → (level_of g (arc_at g.arcs a).tail (back_of g value a) +ℤ pos 1) ≤ℤ (level_of g (arc_at g.arcs a).head value)
+level_falls g a value graph l =
+    let arc = arc_at g.arcs a in
+    let fits : ArcFits g.ends (length g.vertices) arc = graph.fits.each_arc a _ l in
+    let needs = main_needs g a graph l in
+    let down = λ (k : ℕ). back_below (int_at value.at k) (int_at arc.needs k) (window_at (vertex_at g.vertices arc.tail).windows k).high in
+    elim (free_cases arc needs.0 needs.1) [
+      | inl f ↦ same_above (length g.vertices) (rank_of g arc.tail) (rank_of g arc.head) (int_at (back_of g value a).at 0 +ℤ int_at (back_of g value a).at 1) (int_at value.at 0 +ℤ int_at value.at 1) (rank_rises g a graph l f) (omega (arith, ints, down 0, down 1, needs.0, needs.1))
+      | inr q ↦ mixed_above (length g.vertices) (rank_of g arc.tail) (rank_of g arc.head) (int_at (back_of g value a).at 0 +ℤ int_at (back_of g value a).at 1) (int_at value.at 0 +ℤ int_at value.at 1) (rank_below g arc.tail graph fits.tail) (omega (arith, ints, down 0, down 1, q))
+    ]
+
 pub level_within : (g : GraphParts) (v : ℕ) (value : Values) → IsGraph g → v < length g.vertices → AreWithin (vertex_at g.vertices v).windows value → IsWithin (2 ^ 38) (level_of g v value)
 level_within g v value graph l h =
     let small = small_values g v value graph l h in
@@ -122,3 +139,21 @@ walk_short g xs w graph h p =
 -- a small number, in the form in which code tells it
 pub told : (n : ℕ) (z : ℤ) → IsWithin n z → n ≤ 2 ^ 40 → to_z w64 (of_z w64 z) ≡ z
 told n z h l = omega (arith, ints, h.0, h.1, l)
+
+-- a number in the form in which code tells it
+abbrev tells : ℤ → ℤ
+tells z = to_z w64 (of_z w64 z)
+
+-- the steps by which code computes a level give it
+pub level_told : (g : GraphParts) (v : ℕ) (value : Values) (count rank : ℕ) (first second mains product whole : ℤ) → IsGraph g → v < length g.vertices → AreWithin (vertex_at g.vertices v).windows value
+    → count ≡ length g.vertices → rank ≡ rank_of g v → (first ≡ int_at value.at 0) × IsInLimits first → (second ≡ int_at value.at 1) × IsInLimits second
+    → (mains ≡ tells first +ℤ tells second) × IsWithin 200000000 mains → (product ≡ pos count *ℤ tells mains) × IsWithin 204800000000 product
+    → whole ≡ tells product +ℤ pos rank → tells whole ≡ level_of g v value
+level_told g v value count rank first second mains product whole graph l h counted ranked f s m p w =
+    let sum = int_at value.at 0 +ℤ int_at value.at 1 in
+    let f_told = told 100000000 first f.1 (omega arith) ∙ f.0 in
+    let s_told = told 100000000 second s.1 (omega arith) ∙ s.0 in
+    let m_told = told 200000000 mains m.1 (omega arith) ∙ (m.0 ∙ (ap (λ (z : ℤ). z +ℤ tells second) f_told ∙ ap (λ (z : ℤ). int_at value.at 0 +ℤ z) s_told)) in
+    let p_told = told 204800000000 product p.1 (omega arith) ∙ (p.0 ∙ (ap (λ (z : ℤ). pos count *ℤ z) m_told ∙ ap (λ (n : ℕ). pos n *ℤ sum) counted)) in
+    let is : whole ≡ level_of g v value = w ∙ (ap (λ (z : ℤ). z +ℤ pos rank) p_told ∙ ap (λ (r : ℕ). pos (length g.vertices) *ℤ sum +ℤ pos r) ranked) in
+    told (2 ^ 38) whole (subst (λ (z : ℤ). IsWithin (2 ^ 38) z) (sym is) (level_within g v value graph l h)) (omega arith) ∙ is

@@ -1,5 +1,7 @@
 pub mod WalkLemmas
 pub mod SumLemmas
+pub mod IntLemmas
+pub mod VisitLemmas
 pub mod FreeLemmas
 pub mod RestLemmas
 pub mod IndexLemmas

@@ -19,7 +19,7 @@ use Rattle.path_graph.specs.Fit.{PartsFit}
 use Rattle.path_graph.specs.Parts.{arc_at, arcs_from, arcs_into, AreBetween}
 use Rattle.path_graph.specs.Index.{IsIndexed}
 use Rattle.path_graph.specs.Free.{is_free, IsFreePath, IsFreeCycle, HasNoFreeCycle, IsRank, free_depth}
-use Rattle.path_graph.specs.Ranking.{progress_at, IsRankUpTo, IsProgress, AreProgress, LeadsBack, IsOn, IsSearch, IsResting, opening_left, vertex_left, IsRankedAt, GoesOn, HasEnded, begun, advanced, opened, ranked, ClosesOver, IsNext, AreRanks}
+use Rattle.path_graph.specs.Ranking.{progress_at, IsRankUpTo, IsProgress, AreProgress, LeadsBack, IsOn, IsSearch, IsResting, opening_left, vertex_left, IsRankedAt, GoesOn, HasEnded, advanced, opened, ranked, ClosesOver, IsNext, AreRanks}
 use Rattle.path_graph.proofs.IndexLemmas.{few_into, into_at, are_between}
 use Rattle.path_graph.proofs.FreeLemmas.{free_push, EndsBy, free_pop, is_pushed, into_contains, contains_into, rank_computed, ranked_ends_none, no_round}
 
@@ -222,26 +222,6 @@ start_rests arcs count r e p =
       });
       closed = λ v l s. new_not_open (sym (ap (λ (q : Progress). q.stage) (at v l)) ∙ s);
       no_path = p;
-    }
-
-pub begin_searches : (arcs : List GraphArc) (count : ℕ) (r : Ranking) (root : ℕ) → IsResting arcs count r → root < count → IsSearch arcs count (begun r root)
-begin_searches arcs count r root h l =
-    let p = progress_at r.progress root in
-    let within : root < length r.progress = omega (arith, l, h.size) in
-    let old = h.each root within in
-    record {
-      size = length-set r.progress root _ ∙ h.size;
-      stands = l;
-      each = set_progress arcs r.progress root (record p { stage = Open }) h.each within (record {
-        within = old.within;
-        up_to = old.up_to;
-        ranked = λ s. absurd (open_not_ranked s);
-      });
-      back = rw h.no_path refl;
-      on_path = λ v lv s. elim (stage_cases r.progress root v (record p { stage = Open }) Open within s) [
-        | inl e ↦ rw h.no_path (sym e.0)
-        | inr e ↦ absurd (h.closed v lv e.1)
-      ];
     }
 
 -- the next arc is passed

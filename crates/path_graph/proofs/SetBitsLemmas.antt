@@ -1,6 +1,6 @@
 -- Laws of sets of packing sets, by their members.
-use Rattle.std.proofs.Common.{◌≡◌, ◌≢◌, ℕ, ◌+◌, ◌*◌, ◌/◌, ◌%◌, ◌^◌, ◌<◌, ◌≤◌, ◌==◌, ◌&&◌, ◌||◌, nat_lt, Bool, true, false, inl, inr, List, [], ◌∷◌, length, get_or, set, zero, suc, min, refl, sym, ◌∙◌, ap, subst, arith, below_more, w64, ◌⊎◌}
-use Rattle.std.proofs.lemmas.Bool.{cases_lt, cases_eq, lt-ltb, le-ltb, ltb-true, eqb-true, eq-eqb, ne_eqb, and_parts, and_from, or_left, or_right, or_cases}
+use Rattle.std.proofs.Common.{◌≡◌, ◌≢◌, ℕ, ◌+◌, ◌*◌, ◌/◌, ◌%◌, ◌^◌, ◌<◌, ◌≤◌, ◌==◌, ◌&&◌, ◌||◌, nat_lt, Bool, true, false, inl, inr, List, [], ◌∷◌, length, get_or, set, zero, suc, min, refl, sym, ◌∙◌, ap, subst, arith, below_more, w64}
+use Rattle.std.proofs.lemmas.Bool.{cases_lt, cases_eq, lt-ltb, le-ltb, ltb-true, eqb-true, eq-eqb, ne_eqb, and_parts, and_from, or_right}
 use Rattle.std.proofs.lemmas.List.{get_or_past, length-set, get_or-set_same, get_or-set_other}
 use Rattle.std.proofs.lemmas.Grind.{same_number_lists, get_or-set_at}
 use Rattle.std.proofs.lemmas.Nat.{and_le_l, or_lt, mod_below, pow_pos}
@@ -144,51 +144,6 @@ same_set a b p q each =
     rw (word, place) at bits) in
     let lists = same_number_lists a.bits b.bits (p.0 ∙ sym q.0) words in
     ap (λ (xs : List ℕ). let set : SetBits = record { bits = xs } in set) lists
-
--- the order of sets
-pub subset_refl : (a : SetBits) → IsSubset a a
-subset_refl a s member = member
-
-pub subset_trans : (a b c : SetBits) → IsSubset a b → IsSubset b c → IsSubset a c
-subset_trans a b c p q s member = q s (p s member)
-
--- two sets within each other have the same members
-pub subset_both : (a b : SetBits) → IsSubset a b → IsSubset b a → (s : ℕ) → has_set a s ≡ has_set b s
-subset_both a b p q s = same_tests (has_set a s) (has_set b s) (p s) (q s)
-
--- a meet lies within both
-pub meet_left : (a b both : SetBits) → IsMeet a b both → IsSubset both a
-meet_left a b both m s member = (and_parts (has_set a s) (has_set b s) (sym (m s) ∙ member)).0
-
-pub meet_right : (a b both : SetBits) → IsMeet a b both → IsSubset both b
-meet_right a b both m s member = (and_parts (has_set a s) (has_set b s) (sym (m s) ∙ member)).1
-
--- what lies within both lies within their meet
-pub meet_greatest : (a b both c : SetBits) → IsMeet a b both → IsSubset c a → IsSubset c b → IsSubset c both
-meet_greatest a b both c m p q s member = m s ∙ and_from (has_set a s) (has_set b s) (p s member) (q s member)
-
-pub meet_monotone : (a b both c d other : SetBits) → IsMeet a b both → IsMeet c d other → IsSubset a c → IsSubset b d → IsSubset both other
-meet_monotone a b both c d other m n p q =
-    meet_greatest c d other both n (λ s h. p s (meet_left a b both m s h)) (λ s h. q s (meet_right a b both m s h))
-
--- with one more member
-pub with_member : (a : SetBits) (s : ℕ) (more : SetBits) → IsWith a s more → has_set more s ≡ true
-with_member a s more w = w s ∙ or_right (has_set a s) (s == s) (eq-eqb s s refl)
-
-pub with_above : (a : SetBits) (s : ℕ) (more : SetBits) → IsWith a s more → IsSubset a more
-with_above a s more w k member = w k ∙ or_left (has_set a k) (k == s) member
-
-pub with_cases : (a : SetBits) (s : ℕ) (more : SetBits) → IsWith a s more → (k : ℕ) → has_set more k ≡ true → (has_set a k ≡ true) ⊎ (k ≡ s)
-with_cases a s more w k member = elim (or_cases (has_set a k) (k == s) (sym (w k) ∙ member)) [
-  | inl old ↦ inl old
-  | inr new ↦ inr (eqb-true k s new)
-]
-
-pub with_monotone : (a b : SetBits) (s : ℕ) (more other : SetBits) → IsWith a s more → IsWith b s other → IsSubset a b → IsSubset more other
-with_monotone a b s more other w v p k member = elim (with_cases a s more w k member) [
-  | inl old ↦ with_above b s other v k (p k old)
-  | inr new ↦ subst (λ (j : ℕ). has_set other j ≡ true) (sym new) (with_member b s other v)
-]
 
 -- a set is within another where each word is
 pub subset_by_words : (a b : SetBits) → ((j : ℕ) → j < 8 → bit_and (get_or a.bits j 0) (get_or b.bits j 0) ≡ get_or a.bits j 0) → IsSubset a b

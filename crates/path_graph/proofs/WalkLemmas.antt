@@ -1,4 +1,4 @@
-use Rattle.std.proofs.Common.{◌≡◌, ℕ, ◌<◌, ◌+◌, inl, inr, ℤ, pos, ◌≤ℤ◌, ◌+ℤ◌, List, [], ◌∷◌, ◌++◌, length, get_or, drop, refl, sym, ◌∙◌, ap, subst, arith, suc, zero, Bool, true, false, nat_lt}
+use Rattle.std.proofs.Common.{◌≡◌, ℕ, ◌<◌, ◌+◌, inl, inr, ℤ, pos, ◌≤ℤ◌, ◌+ℤ◌, List, [], ◌∷◌, ◌++◌, length, get_or, drop, refl, sym, ◌∙◌, ap, subst, arith, suc, zero, Bool, true, false}
 use Rattle.std.proofs.lemmas.Int.{ints, clamps}
 use Rattle.std.proofs.lemmas.Bool.{cases_lt}
 use Rattle.std.proofs.lemmas.List.{get_or_past, drop_more}
@@ -8,7 +8,7 @@ use Rattle.path_graph.specs.declared.parts.Vertex.{Vertex}
 use Rattle.path_graph.specs.declared.parts.GraphArc.{GraphArc}
 use Rattle.path_graph.specs.declared.parts.Ends.{Ends}
 use Rattle.path_graph.specs.declared.parts.Values.{Values}
-use Rattle.path_graph.specs.Fit.{int_at, window_at, vertex_at, VertexFits, ArcFits, WindowFits, NeedFits, WindowsFit, is_used_at}
+use Rattle.path_graph.specs.Fit.{int_at, window_at, vertex_at, VertexFits, WindowFits, NeedFits, WindowsFit, is_used_at}
 use Rattle.path_graph.specs.Walk.{GraphParts, IsGraph, arc_at, Leads, Passes, Takes, over_of, moved, AreBelow, root_of, values_at_end, IsFeasibleWalk}
 use Rattle.path_graph.specs.Within.{AreWithin, IsInLimits, AreInLimits}
 
@@ -44,15 +44,6 @@ windows_small ends ws k h =
       | inl l ↦ window_small (is_used_at ends k) (window_at ws k) (h k l)
       | inr l ↦ let past : window_at ws k ≡ record { low = pos 0; high = pos 0 } = get_or_past ws k (record { low = pos 0; high = pos 0 }) l in
           rw past ((omega (arith, ints), omega (arith, ints)), (omega (arith, ints), omega (arith, ints)), omega (arith, ints))
-    ]
-
-pub small_needs : (g : GraphParts) (a : ℕ) → IsGraph g → a < length g.arcs → AreInLimits (arc_at g.arcs a).needs
-small_needs g a fit within k below =
-    let arc = arc_at g.arcs a in
-    let fits : ArcFits g.ends (length g.vertices) arc = fit.fits.each_arc a _ within in
-    elim (cases_lt k (length arc.needs)) [
-      | inl l ↦ need_small (is_used_at g.ends k) (nat_lt k 2) (int_at arc.needs k) (fits.needs k l)
-      | inr l ↦ rw (get_or_past arc.needs k (pos 0) l) (omega (arith, ints), omega (arith, ints))
     ]
 
 pub small_values : (g : GraphParts) (v : ℕ) (value : Values) → IsGraph g → v < length g.vertices → AreWithin (vertex_at g.vertices v).windows value → AreInLimits value.at

@@ -1,9 +1,11 @@
+pub mod First
 pub mod Fit
 pub mod Parts
 pub mod Free
 pub mod Graph
 pub mod Index
 pub mod Walk
+pub mod Visits
 pub mod Rest
 pub mod Ranking
 pub mod Level

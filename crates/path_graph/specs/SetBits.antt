@@ -1,12 +1,13 @@
--- Sets of packing sets, by their members, which are numbers below 512.
+-- Sets of packing sets, by their members, which are numbers below MAX_SETS.
 use Rattle.std.specs.Prelude.{◌≡◌, ℕ, zero, suc, ◌+◌, ◌*◌, ◌<◌, ◌/◌, ◌%◌, ◌^◌, ◌==◌, ◌&&◌, ◌||◌, not, nat_lt, if◌then◌else◌, Bool, true, false, IsTrue, length, map, slice_index}
 use Rattle.std.specs.List.{range_with_len}
 use Rattle.std.specs.Int.{bit_at}
+use Rattle.path_graph.specs.declared.limits.TheConstants.{MAX_SETS}
 use Rattle.path_graph.specs.declared.set_bits.SetBits.{SetBits}
 
 -- whether the number is a member
 unfoldable pub has_set : SetBits → ℕ → Bool
-has_set set s = nat_lt s 512 && (bit_at (slice_index set.bits (s / 64)) (s % 64) == 1)
+has_set set s = nat_lt s MAX_SETS && (bit_at (slice_index set.bits (s / 64)) (s % 64) == 1)
 
 -- no number is a member
 abbrev pub HasNoMember : SetBits → Type 0
@@ -33,7 +34,7 @@ unfoldable pub word_of : (ℕ → Bool) → ℕ → ℕ
 word_of test zero = 0
 word_of test (suc n) = (if test n then 1 else 0) * 2 ^ n + word_of test n
 
--- the set of the numbers below 512 that pass the test
+-- the set of the numbers below MAX_SETS that pass the test
 unfoldable pub set_of : (ℕ → Bool) → SetBits
 set_of test = record { bits = map (λ k. word_of (λ i. test (k * 64 + i)) 64) (range_with_len 0 8) }
 
@@ -44,4 +45,4 @@ all_below test (suc n) = test n && all_below test n
 
 -- whether each member of the one is a member of the other
 unfoldable pub is_subset : SetBits → SetBits → Bool
-is_subset a b = all_below (λ s. not (has_set a s) || has_set b s) 512
+is_subset a b = all_below (λ s. not (has_set a s) || has_set b s) MAX_SETS

@@ -1,14 +1,8 @@
 -- What lies in windows and limits.
-use Rattle.std.specs.Prelude.{◌≢◌, ℕ, ◌<◌, ℤ, pos, ◌≤ℤ◌, neg_ℤ, List, All}
-use Rattle.path_graph.specs.declared.parts.GraphArc.{GraphArc}
-use Rattle.path_graph.specs.declared.parts.Ends.{Ends}
+use Rattle.std.specs.Prelude.{ℕ, ◌<◌, ℤ, pos, ◌≤ℤ◌, neg_ℤ, List}
 use Rattle.path_graph.specs.declared.parts.Values.{Values}
 use Rattle.path_graph.specs.declared.parts.Window.{Window}
 use Rattle.path_graph.specs.Fit.{int_at, window_at}
-
--- each arc that does not enter the sink has a main consumption of at least 1
-abbrev pub ConsumesBeforeSink : Ends → List GraphArc → Type 0
-ConsumesBeforeSink ends arcs = All (λ arc. arc.head ≢ ends.sink → pos 1 ≤ℤ (int_at arc.needs 0)) arcs
 
 -- the values lie in the windows
 abbrev pub AreWithin : List Window → Values → Type 0

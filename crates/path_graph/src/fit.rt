@@ -1,9 +1,11 @@
 ghost use Rattle.std.specs.Prelude.{◌≡◌, ◌↔◌, ◌^◌, IsTrue, ℕ, ◌<◌, ◌≤◌, length, All};
 ghost use Rattle.path_graph.specs.Fit.{is_used_at, WindowFits, NeedFits, WindowsFit, NeedsFit, VertexFits, ArcFits, EndsFit, PartsFit};
 
+use crate::limits::{MAX_AMOUNT, MAX_ARCS, MAX_PATHS, MAX_SETS, MAX_VERTICES};
 use crate::parts::{Ends, GraphArc, Vertex, Window};
 
-fn is_used(ends: &Ends, place: usize) -> bool
+/// Whether a position has a resource: 0 and 1 are main, 2 to 5 secondary.
+pub fn is_used(ends: &Ends, place: usize) -> bool
     requires { place < 2 ^ 32 }
     ensures { result ≡ is_used_at ends.now place }
 {
@@ -18,7 +20,7 @@ fn window_fits(used: bool, window: &Window) -> bool
     ensures { IsTrue result ↔ WindowFits used window.now }
 {
     if used {
-        window.low >= -100_000_000 && window.low <= window.high && window.high <= 100_000_000
+        window.low >= -MAX_AMOUNT && window.low <= window.high && window.high <= MAX_AMOUNT
     } else {
         window.low == 0 && window.high == 0
     }
@@ -30,9 +32,9 @@ fn need_fits(used: bool, main: bool, need: i32) -> bool
     if !used {
         need == 0
     } else if main {
-        need >= 0 && need <= 100_000_000
+        need >= 0 && need <= MAX_AMOUNT
     } else {
-        need >= -100_000_000 && need <= 100_000_000
+        need >= -MAX_AMOUNT && need <= MAX_AMOUNT
     }
 }
 
@@ -65,7 +67,7 @@ fn vertex_fits(ends: &Ends, vertex: &Vertex) -> bool
 {
     let set_fits = match vertex.set {
         None => true,
-        Some(set) => set < 512,
+        Some(set) => set < MAX_SETS,
     };
     set_fits && windows_fit(ends, &vertex.windows)
 }
@@ -87,7 +89,7 @@ fn ends_fit(ends: &Ends, count: usize) -> bool
         && (ends.sink as usize) < count
         && ends.source != ends.sink
         && ends.low <= ends.high
-        && ends.high <= 4_096
+        && ends.high <= MAX_PATHS
         && 1 <= ends.mains
         && ends.mains <= 2
         && ends.seconds <= 4
@@ -106,9 +108,9 @@ fn arcs_fit(ends: &Ends, count: usize, arcs: &[GraphArc]) -> bool
 }
 
 fn counts_fit(vertices: usize, arcs: usize) -> bool
-    ensures { IsTrue result ↔ ((2 ≤ vertices) × (vertices ≤ 1024) × (arcs ≤ 60000)) }
+    ensures { IsTrue result ↔ ((2 ≤ vertices) × (vertices ≤ MAX_VERTICES) × (arcs ≤ MAX_ARCS)) }
 {
-    2 <= vertices && vertices <= 1_024 && arcs <= 60_000
+    2 <= vertices && vertices <= MAX_VERTICES && arcs <= MAX_ARCS
 }
 
 /// Whether a graph can be made of the parts.

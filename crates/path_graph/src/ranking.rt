@@ -5,6 +5,7 @@ ghost use Rattle.path_graph.specs.Free.{is_free, IsFreeCycle, IsRank};
 ghost use Rattle.path_graph.specs.Ranking.{progress_at, IsOn, LeadsBack, IsNext, IsSearch, IsResting, GoesOn, HasEnded, with_stage, begun, advanced, opened, ranked, ClosesOver, AreRanks, IsCycleFault};
 ghost use Rattle.path_graph.specs.declared.ranking.Stage.TheVariants.{New, Open, Ranked};
 ghost use Rattle.path_graph.specs.declared.parts.GraphArc.{GraphArc};
+ghost use Rattle.path_graph.specs.declared.limits.TheConstants.{MAX_VERTICES, MAX_ARCS};
 
 use crate::fault::GraphFault;
 use crate::list::{List, NoMemory};
@@ -130,8 +131,8 @@ impl Ranking {
         arcs: &[GraphArc],
         into: &[List<u32>],
     ) -> Result<bool, GraphFault>
-        requires few { length self.old.progress ≤ 1024 }
-        requires few_arcs { length arcs.now ≤ 60000 }
+        requires few { length self.old.progress ≤ MAX_VERTICES }
+        requires few_arcs { length arcs.now ≤ MAX_ARCS }
         requires between { AreBetween (length self.old.progress) arcs.now }
         requires into { into.now ≡ map (arcs_into arcs.now) (range_with_len 0 (length self.old.progress)) }
         requires search { IsSearch arcs.now (length self.old.progress) self.old }
@@ -156,8 +157,8 @@ impl Ranking {
         progress: Progress,
         arc: u32,
     ) -> Result<bool, GraphFault>
-        requires few { length self.old.progress ≤ 1024 }
-        requires few_arcs { length arcs.now ≤ 60000 }
+        requires few { length self.old.progress ≤ MAX_VERTICES }
+        requires few_arcs { length arcs.now ≤ MAX_ARCS }
         requires between { AreBetween (length self.old.progress) arcs.now }
         requires progress { progress ≡ progress_at self.old.progress self.old.vertex }
         requires arc { IsNext arcs.now self.old arc }
@@ -197,8 +198,8 @@ impl Ranking {
         into: &[List<u32>],
         root: u32,
     ) -> Result<(), GraphFault>
-        requires few { length self.old.progress ≤ 1024 }
-        requires few_arcs { length arcs.now ≤ 60000 }
+        requires few { length self.old.progress ≤ MAX_VERTICES }
+        requires few_arcs { length arcs.now ≤ MAX_ARCS }
         requires between { AreBetween (length self.old.progress) arcs.now }
         requires into { into.now ≡ map (arcs_into arcs.now) (range_with_len 0 (length self.old.progress)) }
         requires root { root < length self.old.progress }
@@ -253,8 +254,8 @@ pub(crate) fn rank_all(
     arcs: &[GraphArc],
     into: &[List<u32>],
 ) -> Result<List<u32>, GraphFault>
-    requires few { count ≤ 1024 }
-    requires few_arcs { length arcs.now ≤ 60000 }
+    requires few { count ≤ MAX_VERTICES }
+    requires few_arcs { length arcs.now ≤ MAX_ARCS }
     requires between { AreBetween count arcs.now }
     requires into { into.now ≡ map (arcs_into arcs.now) (range_with_len 0 count) }
     ensures ranks { IfOk result (AreRanks arcs.now count) }

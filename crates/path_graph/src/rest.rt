@@ -34,7 +34,7 @@ pub fn end_values(g: &Graph) -> Values
 }
 
 /// A value back over an arc with a need, into a window with a high end.
-fn fallen(value: i32, need: i32, high: i32) -> i32
+fn capped(value: i32, need: i32, high: i32) -> i32
     requires value { IsInLimits value }
     requires need { IsInLimits need }
     ensures { result ≡ int_min high (value -ℤ need) }
@@ -50,7 +50,7 @@ fn value_back(value: &Values, arc: &GraphArc, windows: &[Window; 6], place: usiz
     requires needs { AreInLimits arc.now.needs }
     ensures { result ≡ moved_back_at value.now.at arc.now.needs windows.now place }
 {
-    fallen(value.at[place], arc.needs[place], windows[place].high)
+    capped(value.at[place], arc.needs[place], windows[place].high)
 }
 
 /// The values back over an arc.

@@ -1,9 +1,11 @@
 ghost use Rattle.std.specs.Prelude.{◌≡◌, ◌↔◌, IsTrue, ◌<◌};
 ghost use Rattle.path_graph.specs.SetBits.{has_set, HasNoMember, IsWith, IsMeet, IsSubset, IsWhole};
 
+use crate::limits::MAX_SETS;
+
 /// A set of packing sets, by number: bit `s % 64` of word `s / 64` stands for set `s`.
 ///
-/// Contracts see it by its members, which are numbers below 512. Each call looks at eight words at most.
+/// Contracts see it by its members, which are numbers below `MAX_SETS`. Each call looks at eight words at most.
 #[derive(Clone, Copy, Debug, PartialEq, Eq)]
 pub struct SetBits {
     pub bits: [u64; 8],
@@ -18,16 +20,16 @@ impl SetBits {
         SetBits { bits: [0; 8] }
     }
 
-    /// Whether a number is a member. A number of 512 or more is a member of no set.
+    /// Whether a number is a member. A number of `MAX_SETS` or more is a member of no set.
     pub fn has(&self, s: u16) -> bool
         ensures { result ≡ has_set self.now s }
     {
-        s < 512 && self.bits[s as usize / 64] >> (s % 64) & 1 == 1
+        s < MAX_SETS && self.bits[s as usize / 64] >> (s % 64) & 1 == 1
     }
 
     /// The set with one more member.
     pub fn with(&self, s: u16) -> SetBits
-        requires { s < 512 }
+        requires { s < MAX_SETS }
         ensures members { IsWith self.now s result }
         ensures whole { IsWhole self.now → IsWhole result }
     {

@@ -33,7 +33,7 @@ pub fn root_values(g: &Graph) -> Values
 }
 
 /// A value over an arc with a need, into a window with a low end.
-fn grown(value: i32, need: i32, low: i32) -> i32
+fn waited(value: i32, need: i32, low: i32) -> i32
     requires value { IsInLimits value }
     requires need { IsInLimits need }
     ensures { result ≡ int_max low (value +ℤ need) }
@@ -49,7 +49,7 @@ fn value_over(value: &Values, arc: &GraphArc, windows: &[Window; 6], place: usiz
     requires needs { AreInLimits arc.now.needs }
     ensures { result ≡ moved_at value.now.at arc.now.needs windows.now place }
 {
-    grown(value.at[place], arc.needs[place], windows[place].low)
+    waited(value.at[place], arc.needs[place], windows[place].low)
 }
 
 /// The values over an arc.
