@@ -1,40 +1,20 @@
 -- Bounds on values, terms and costs.
-use Rattle.std.proofs.Common.{take, ◌+ℤ◌, FitsSigned, w64, to_z, of_z, negsuc, Bool, false, cond, nat_lt, ◌≡◌, ℕ, ◌+◌, ◌≤◌, ◌<◌, List, [], ◌∷◌, length, arith, sym, ap, refl, ℤ, pos, ◌*ℤ◌, ◌≤ℤ◌, unsigned_abs}
+use Rattle.std.proofs.Common.{take, ◌+ℤ◌, FitsSigned, w64, to_z, of_z, negsuc, ◌≡◌, ℕ, ◌+◌, ◌≤◌, ◌<◌, List, length, arith, sym, ℤ, pos, ◌*ℤ◌, ◌≤ℤ◌, unsigned_abs}
 use Rattle.std.proofs.lemmas.Int.{ints, clamps}
-use Rattle.std.proofs.lemmas.Bool.Decides.{nat_tests}
-use Rattle.std.proofs.lemmas.List.{get_or_past}
-use Rattle.std.proofs.lemmas.List.Sums.{sum_by-cons, sum_by_more}
-use Rattle.std.specs.Prelude.{count_by}
-use Rattle.path_graph.specs.Walk.{GraphParts}
+use Rattle.std.proofs.lemmas.List.Sums.{sum_by_more}
 use Rattle.route_model.specs.declared.parts.Var.{Var}
 use Rattle.route_model.specs.Costs.{least_var_cost, greatest_var_cost}
 use Rattle.route_model.specs.Fit.{VarFits, cost_range_of, cost_range}
-use Rattle.route_model.specs.Parts.{ModelParts, var_at, graph_in}
-use Rattle.route_model.specs.Quantities.{value_of, visits_in, enters}
+use Rattle.route_model.specs.Parts.{ModelParts, var_at}
+use Rattle.route_model.specs.Quantities.{value_of}
 use Rattle.route_model.specs.Solution.{InBox}
 use Rattle.path_graph.specs.Within.{IsWithin}
 use Rattle.path_graph.proofs.SumLemmas.{abs_within, product_within, IsSumWithin, signed_loop_step}
-use Rattle.route_model.specs.declared.plan.Taken.{Taken}
+use Rattle.route_model.specs.declared.plan.Plan.{Plan}
 
 -- a variable in its box is small
-pub small_value : (m : ModelParts) (plan : List Taken) (j : ℕ) → VarFits (var_at m.vars j) → InBox m plan j → value_of m plan j ≤ 1000000
+pub small_value : (m : ModelParts) (plan : Plan) (j : ℕ) → VarFits (var_at m.vars j) → InBox m plan j → value_of m plan j ≤ 1000000
 small_value m plan j fits box = omega (arith, ints, fits.high, box.1)
-
--- no arc of a graph without arcs enters a packing set
-count_by-none : {X : Type 0} (p : X → Bool) (xs : List X) → ((x : X) → p x ≡ false) → count_by p xs ≡ 0
-count_by-none p [] none = refl
-count_by-none p (x ∷ xs) none =
-    let more = sum_by-cons (λ y. cond (p y) 1 0) x xs in
-    let here = ap (λ (b : Bool). let n : ℕ = cond b 1 0 in n) (none x) in
-    omega (arith, more, here, count_by-none p xs none)
-
-not_below_none : (a : ℕ) → nat_lt a 0 ≡ false
-not_below_none a = grind (arith, nat_tests)
-
-pub visits_in-past : (graphs : List GraphParts) (s g : ℕ) (arcs : List ℕ) → length graphs ≤ g → visits_in graphs s g arcs ≡ 0
-visits_in-past graphs s g arcs past =
-    let empty : graph_in graphs g ≡ graph_in [] g = get_or_past graphs g _ past in
-    rw empty (count_by-none (enters (graph_in [] g) s) arcs (λ a. rw (not_below_none a) refl))
 
 -- what a variable in its box costs is within its part of the cost range
 pub var_cost_within : (v : Var) (n : ℕ) → VarFits v → (pos n) ≤ℤ v.high → IsWithin (cost_range_of v) (v.cost *ℤ pos n)

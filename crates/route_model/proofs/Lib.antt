@@ -1,3 +1,4 @@
 pub mod Bounds
 pub mod TidyLemmas
 pub mod SolutionLemmas
+pub mod KnownLemmas

@@ -5,6 +5,7 @@ use Rattle.route_model.specs.declared.parts.Var.{Var}
 use Rattle.route_model.specs.declared.parts.RowTerm.{RowTerm}
 use Rattle.route_model.specs.declared.parts.Row.{Row}
 use Rattle.route_model.specs.declared.plan.Taken.{Taken}
+use Rattle.route_model.specs.declared.plan.Plan.{Plan}
 
 -- variables, rows, the number of packing sets, graphs, and for each graph and each of its arcs the variables of the arc
 pub record ModelParts : Type 0 where
@@ -40,4 +41,8 @@ abbrev pub mapped_vars : List (List (List ℕ)) → ℕ → ℕ → List ℕ
 mapped_vars maps g a = slice_index_or (maps_in maps g) a []
 
 abbrev pub taken_at : List Taken → ℕ → Taken
-taken_at plan i = slice_index_or plan i (record { graph = 0; count = 0; arcs = [] })
+taken_at paths i = slice_index_or paths i (record { graph = 0; count = 0; arcs = [] })
+
+-- the plan of these paths
+abbrev pub plan_with : List Taken → Plan
+plan_with paths = record { paths = paths }

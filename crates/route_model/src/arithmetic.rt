@@ -2,8 +2,8 @@ ghost use Rattle.std.specs.Prelude.{◌≡◌, ◌≤◌, pos, ◌*ℤ◌, ◌+�
 ghost use Rattle.std.specs.Int.{w64, int_min, int_max};
 ghost use Rattle.path_graph.specs.Within.{IsWithin};
 
-/// A small number as a signed one.
-pub fn small(total: u128) -> i64
+/// A value of a variable as a signed number.
+pub fn signed_value(total: u128) -> i64
     requires { total ≤ 1000000 }
     ensures { result ≡ pos total }
 {
@@ -20,7 +20,7 @@ pub fn product(factor: i64, value: i64) -> i64
 }
 
 /// A sum that fits.
-pub fn added(total: i64, more: i64) -> i64
+pub fn sum_of(total: i64, more: i64) -> i64
     requires { FitsSigned w64 (total +ℤ more) }
     ensures { result ≡ total +ℤ more }
 {

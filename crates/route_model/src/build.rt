@@ -5,6 +5,7 @@ ghost use Rattle.route_model.specs.Parts.{var_at};
 ghost use Rattle.route_model.specs.Fit.{VarFits, VarsFit, ModelFits, cost_range_of, cost_range};
 ghost use Rattle.route_model.specs.Costs.{least_var_cost, greatest_var_cost, least_box_cost, greatest_box_cost, cost_above_all};
 
+use crate::limits::MAX_COST_RANGE;
 use crate::parts::{BuildFault, Model, Row, Var};
 use path_graph::{Graph, List};
 use std::alloc::Global;
@@ -12,7 +13,7 @@ use std::alloc::Global;
 impl Model {
     /// The model of parts that fit, as `model_fits` tells.
     ///
-    /// `CostRange` comes where the sum of absolute cost × high over the variables is above 2^40, and then the parts
+    /// `CostRange` comes where the sum of absolute cost × high over the variables is above `MAX_COST_RANGE`, and then the parts
     /// are dropped.
     pub fn build(
         _alloc: Global,
@@ -24,9 +25,9 @@ impl Model {
     ) -> Result<Model, BuildFault>
         requires { ModelFits (record { vars = vars; rows = rows; sets = sets; graphs = graphs; maps = maps }) }
         ensures ok { IfOk result (λ m. m ≡ record { vars = vars; rows = rows; sets = sets; graphs = graphs; maps = maps }) }
-        ensures cost_range { IsErrOf result BuildFault.CostRange ↔ (2 ^ 40 < cost_range vars) }
+        ensures cost_range { IsErrOf result BuildFault.CostRange ↔ (MAX_COST_RANGE < cost_range vars) }
     {
-        if cost_total(vars.as_slice()) > 1 << 40 {
+        if cost_total(vars.as_slice()) > MAX_COST_RANGE {
             return Err(BuildFault::CostRange);
         }
         Ok(Model {

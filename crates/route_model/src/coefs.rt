@@ -1,14 +1,15 @@
 ghost use Rattle.std.specs.Prelude.{◌≡◌, ◌↔◌, IsTrue, ℕ, ◌+◌, ◌-◌, ◌<◌, ◌≤◌, ◌^◌, length, min, slice_index, unsigned_abs, if◌then◌else◌, ◌==◌};
 ghost use Rattle.route_model.specs.Fit.{row_coef, total_coef};
 
+use crate::limits::MAX_COEF_SUM;
 use crate::parts::{Row, RowTerm};
 
 /// How many variables one pass over the terms looks at.
 const BLOCK: usize = 1_024;
 
-/// Whether the absolute coefficients of each variable over the rows sum to at most 1,048,576.
+/// Whether the absolute coefficients of each variable over the rows sum to at most `MAX_COEF_SUM`.
 pub fn coefs_fit(count: usize, rows: &[Row]) -> bool
-    ensures { IsTrue result ↔ ((j : ℕ) → j < count → total_coef rows.now j ≤ 1048576) }
+    ensures { IsTrue result ↔ ((j : ℕ) → j < count → total_coef rows.now j ≤ MAX_COEF_SUM) }
 {
     for block in 0..count.div_ceil(BLOCK) {
         if !block_fits(block * BLOCK, count, rows) {
@@ -20,11 +21,11 @@ pub fn coefs_fit(count: usize, rows: &[Row]) -> bool
 
 /// The same of the variables of a block.
 fn block_fits(start: usize, count: usize, rows: &[Row]) -> bool
-    ensures { IsTrue result ↔ ((k : ℕ) → k < 1024 → start + k < count → total_coef rows.now (start + k) ≤ 1048576) }
+    ensures { IsTrue result ↔ ((k : ℕ) → k < 1024 → start + k < count → total_coef rows.now (start + k) ≤ MAX_COEF_SUM) }
 {
     let totals = block_totals(start, rows);
     for (k, total) in totals.iter().enumerate() {
-        if k < count.saturating_sub(start) && *total > 1_048_576 {
+        if k < count.saturating_sub(start) && *total > MAX_COEF_SUM {
             return false;
         }
     }

@@ -1,14 +1,14 @@
-ghost use Rattle.std.specs.Prelude.{◌≡◌, ℕ, List, ◌<◌, ◌≤◌, ◌^◌, pos, ◌+ℤ◌, ◌*ℤ◌, ◌≤ℤ◌, ◌<ℤ◌, length};
+ghost use Rattle.std.specs.Prelude.{◌≡◌, ℕ, ◌<◌, ◌≤◌, ◌^◌, pos, ◌+ℤ◌, ◌*ℤ◌, ◌≤ℤ◌, ◌<ℤ◌, length};
 ghost use Rattle.path_graph.specs.Sums.{sum_below};
 ghost use Rattle.path_graph.specs.Within.{IsWithin};
 ghost use Rattle.route_model.specs.Parts.{var_at};
 ghost use Rattle.route_model.specs.Fit.{VarFits, VarsFit, cost_range_of, cost_range};
-ghost use Rattle.route_model.specs.declared.plan.Taken.{Taken};
+ghost use Rattle.route_model.specs.declared.plan.Plan.{Plan};
 ghost use Rattle.route_model.specs.Quantities.{cost_of};
 ghost use Rattle.route_model.specs.Solution.{IsSolution};
 ghost use Rattle.route_model.specs.Costs.{least_var_cost, greatest_var_cost, least_box_cost, greatest_box_cost, cost_above_all};
 
-use crate::arithmetic::{added, product_ends};
+use crate::arithmetic::{product_ends, sum_of};
 use crate::parts::{Model, Var};
 use path_graph::List;
 
@@ -18,11 +18,11 @@ use path_graph::List;
 pub fn box_costs(model: &Model) -> (i64, i64)
     ensures least { result.0 ≡ least_box_cost model.now }
     ensures above_all { result.1 ≡ cost_above_all model.now }
-    ensures solutions { (plan : List Taken) → IsSolution model.now plan →
+    ensures solutions { (plan : Plan) → IsSolution model.now plan →
         (result.0 ≤ℤ cost_of model.now plan) × (cost_of model.now plan <ℤ result.1) }
 {
     let vars = &model.vars;
-    (least_total(vars), added(greatest_total(vars), 1))
+    (least_total(vars), sum_of(greatest_total(vars), 1))
 }
 
 fn least_total(vars: &List<Var>) -> i64
@@ -32,7 +32,7 @@ fn least_total(vars: &List<Var>) -> i64
 {
     let mut total = 0;
     for var in 0..vars.len() as u32 {
-        total = added(total, least_cost(vars, var));
+        total = sum_of(total, least_cost(vars, var));
     }
     total
 }
@@ -45,7 +45,7 @@ fn greatest_total(vars: &List<Var>) -> i64
 {
     let mut total = 0;
     for var in 0..vars.len() as u32 {
-        total = added(total, greatest_cost(vars, var));
+        total = sum_of(total, greatest_cost(vars, var));
     }
     total
 }

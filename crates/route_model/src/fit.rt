@@ -4,8 +4,12 @@ ghost use Rattle.path_graph.specs.Within.{IsWithin};
 ghost use Rattle.route_model.specs.Fit.{VarFits, VarsFit, SidesFit, Ascends, TermFits, RowFits, RowsFit, IsDeclared, GraphFits, GraphsFit, MapFits, GraphMapsFit, MapsFit, ModelFits};
 
 use crate::coefs::coefs_fit;
+use crate::limits::{
+    MAX_ALL_ARCS, MAX_COEF, MAX_COST, MAX_GRAPHS, MAX_MAPPED, MAX_ROWS, MAX_SIDE, MAX_TERMS,
+    MAX_VALUE, MAX_VARS,
+};
 use crate::parts::{Row, RowTerm, Var};
-use path_graph::{Graph, List};
+use path_graph::{Graph, List, MAX_PATHS, MAX_SETS};
 
 /// Whether the parts keep the limits and orders of a model, but for the cost range.
 ///
@@ -28,7 +32,7 @@ pub fn model_fits(
       maps = maps.now;
     }) }
 {
-    if !vars_fit(vars) || !rows_fit(vars.len(), rows) || sets > 512 {
+    if !vars_fit(vars) || !rows_fit(vars.len(), rows) || sets > MAX_SETS {
         return false;
     }
     graphs_fit(sets, graphs) && maps_fit(vars.len(), graphs, maps)
@@ -37,14 +41,14 @@ pub fn model_fits(
 fn vars_fit(vars: &[Var]) -> bool
     ensures { IsTrue result ↔ VarsFit vars.now }
 {
-    vars.len() <= 30_000 && vars.iter().all(|var| var_fits(var))
+    vars.len() <= MAX_VARS && vars.iter().all(|var| var_fits(var))
 }
 
 fn var_fits(var: &Var) -> bool
     ensures { IsTrue result ↔ VarFits var.now }
 {
-    let box_fits = 0 <= var.low && var.low <= var.high && var.high <= 1_000_000;
-    box_fits && is_within(1_000_000_000, var.cost)
+    let box_fits = 0 <= var.low && var.low <= var.high && var.high <= MAX_VALUE;
+    box_fits && is_within(MAX_COST, var.cost)
 }
 
 /// Whether a number is so near to 0.
@@ -57,10 +61,10 @@ fn is_within(limit: u64, number: i64) -> bool
 fn rows_fit(count: usize, rows: &[Row]) -> bool
     ensures { IsTrue result ↔ RowsFit count rows.now }
 {
-    if rows.len() > 5_000 || !rows.iter().all(|row| row_fits(count, row)) {
+    if rows.len() > MAX_ROWS || !rows.iter().all(|row| row_fits(count, row)) {
         return false;
     }
-    term_count(rows) <= 1_000_000 && coefs_fit(count, rows)
+    term_count(rows) <= MAX_TERMS && coefs_fit(count, rows)
 }
 
 fn row_fits(count: usize, row: &Row) -> bool
@@ -84,15 +88,15 @@ fn sides_fit(low: Option<i64>, high: Option<i64>) -> bool
 }
 
 fn side_fits(side: i64) -> bool
-    ensures { IsTrue result ↔ IsWithin 1000000000000 side }
+    ensures { IsTrue result ↔ IsWithin MAX_SIDE side }
 {
-    is_within(1_000_000_000_000, side)
+    is_within(MAX_SIDE, side)
 }
 
 fn term_fits(count: usize, term: &RowTerm) -> bool
     ensures { IsTrue result ↔ TermFits count term.now }
 {
-    (term.var as usize) < count && is_within(1_000_000, term.coef)
+    (term.var as usize) < count && is_within(MAX_COEF, term.coef)
 }
 
 fn terms_ascend(terms: &[RowTerm]) -> bool
@@ -120,10 +124,10 @@ fn term_count(rows: &[Row]) -> usize
 fn graphs_fit(sets: u16, graphs: &[Graph]) -> bool
     ensures { IsTrue result ↔ GraphsFit sets graphs.now }
 {
-    if graphs.len() > 64 || !graphs.iter().all(|graph| graph_fits(sets, graph)) {
+    if graphs.len() > MAX_GRAPHS || !graphs.iter().all(|graph| graph_fits(sets, graph)) {
         return false;
     }
-    arc_total(graphs) <= 100_000 && path_total(graphs) <= 4_096
+    arc_total(graphs) <= MAX_ALL_ARCS && path_total(graphs) <= u64::from(MAX_PATHS)
 }
 
 fn graph_fits(sets: u16, graph: &Graph) -> bool
@@ -196,7 +200,7 @@ fn graph_maps_fit(count: usize, graph: &Graph, maps: &List<List<u32>>) -> bool
 fn map_fits(count: usize, vars: &[u32]) -> bool
     ensures { IsTrue result ↔ MapFits count vars.now }
 {
-    vars.len() <= 16 && vars.iter().all(|var| (*var as usize) < count) && vars_ascend(vars)
+    vars.len() <= MAX_MAPPED && vars.iter().all(|var| (*var as usize) < count) && vars_ascend(vars)
 }
 
 fn vars_ascend(vars: &[u32]) -> bool

@@ -1,28 +1,37 @@
-ghost use Rattle.std.specs.Prelude.{◌≡◌, ◌↔◌, IsTrue, ℕ, ◌<◌, ◌≤◌, ◌-◌, ◌*◌, ◌^◌, List, length, count_by};
-ghost use Rattle.route_model.specs.Parts.{graph_in};
-ghost use Rattle.route_model.specs.Quantities.{is_mapped, uses_in, enters, visits_in, is_of, quantity, value_of, visits_of, paths_of};
+ghost use Rattle.std.specs.Prelude.{◌≡◌, ℕ, ◌<◌, ◌≤◌, ◌-◌, ◌*◌, ◌^◌, List, All, length, count_by};
+ghost use Rattle.path_graph.specs.Visits.{is_visit, visit_over, visits_along, visit_count};
+ghost use Rattle.path_graph.specs.declared.limits.TheConstants.{MAX_PATHS};
+ghost use Rattle.route_model.specs.Parts.{maps_in};
+ghost use Rattle.route_model.specs.Quantities.{is_mapped, uses_in, visits_in, is_of, quantity, value_of, visits_of, paths_of};
+ghost use Rattle.route_model.specs.Solution.{ArePaths};
+ghost use Rattle.route_model.specs.Known.{AreMapped, AreArcsOf};
 ghost use Rattle.route_model.specs.Verdicts.{IsCounted};
 
 use crate::parts::Model;
-use crate::plan::Taken;
+use crate::plan::{Plan, Taken};
 use path_graph::{Graph, List};
 
-/// A quantity that each walk has, and a plan by the sum over its walks.
+/// A quantity of walks, and so of a plan: the sum over its walks, each as often as it is taken.
 trait WalkQuantity {
     /// The quantity of a walk, by its graph and arcs.
     ghost of_walk: { Self → ℕ → List ℕ → ℕ };
 
+    /// The walks of which it is told.
+    ghost is_told: { Self → ℕ → List ℕ → Type 0 };
+
     fn of_walk(&self, graph: u32, arcs: &[u32]) -> u64
+        requires { is_told self.now graph arcs.now }
         ensures { result ≡ of_walk self.now graph arcs.now };
 }
 
 /// The quantity of a plan.
-fn total<Q: WalkQuantity>(kind: &Q, paths: &[Taken]) -> u128
-    requires { IsCounted paths.now }
-    ensures { result ≡ quantity (Q.of_walk kind.now) paths.now }
+fn total<Q: WalkQuantity>(kind: &Q, plan: &Plan) -> u128
+    requires counted { IsCounted plan.now }
+    requires told { All (λ t. Q.is_told kind.now t.graph t.arcs) plan.now.paths }
+    ensures { result ≡ quantity (Q.of_walk kind.now) plan.now }
 {
     let mut total = 0;
-    for taken in paths {
+    for taken in plan.paths.as_slice() {
         total += path_quantity(kind, taken);
     }
     total
@@ -30,7 +39,8 @@ fn total<Q: WalkQuantity>(kind: &Q, paths: &[Taken]) -> u128
 
 /// The quantity of a walk, as often as it is taken.
 fn path_quantity<Q: WalkQuantity>(kind: &Q, taken: &Taken) -> u128
-    requires { taken.now.count ≤ 4096 }
+    requires count { taken.now.count ≤ MAX_PATHS }
+    requires told { Q.is_told kind.now taken.now.graph taken.now.arcs }
     ensures quantity { result ≡ taken.now.count * Q.of_walk kind.now taken.now.graph taken.now.arcs }
     ensures bound { result ≤ 2 ^ 76 }
 {
@@ -48,6 +58,8 @@ struct Uses<'a> {
 impl WalkQuantity for Uses<'_> {
     ghost of_walk = { λ q. uses_in q.maps.now q.var };
 
+    ghost is_told = { λ q. AreMapped q.maps.now };
+
     fn of_walk(&self, graph: u32, arcs: &[u32]) -> u64 {
         let mut count = 0;
         for arc in arcs {
@@ -61,15 +73,11 @@ impl WalkQuantity for Uses<'_> {
 
 /// Whether an arc maps a variable.
 fn maps_var(maps: &List<List<List<u32>>>, var: u32, graph: u32, arc: u32) -> bool
+    requires graph { graph < length maps.now }
+    requires arc { arc < length (maps_in maps.now graph) }
     ensures { result ≡ is_mapped maps.now var graph arc }
 {
-    if graph as usize >= maps.len() {
-        return false;
-    }
     let arcs = maps.at(graph as usize);
-    if arc as usize >= arcs.len() {
-        return false;
-    }
     arcs.at(arc as usize).as_slice().contains(&var)
 }
 
@@ -83,17 +91,17 @@ struct Visits<'a> {
 impl WalkQuantity for Visits<'_> {
     ghost of_walk = { λ q. visits_in q.graphs.now q.set };
 
+    ghost is_told = { λ q. AreArcsOf q.graphs.now };
+
     fn of_walk(&self, graph: u32, arcs: &[u32]) -> u64 {
-        if graph as usize >= self.graphs.len() {
-            return 0;
-        }
         visits_in_graph(self.graphs.at(graph as usize), self.set, arcs)
     }
 }
 
 /// How many arcs enter a packing set.
 fn visits_in_graph(graph: &Graph, set: u16, arcs: &[u32]) -> u64
-    ensures { result ≡ count_by (enters graph.now set) arcs.now }
+    requires { All (λ a. a < length graph.now.arcs) arcs.now }
+    ensures { result ≡ visit_count set (visits_along graph.now arcs.now) }
 {
     let mut count = 0;
     for arc in arcs {
@@ -106,13 +114,10 @@ fn visits_in_graph(graph: &Graph, set: u16, arcs: &[u32]) -> u64
 
 /// Whether the head of an arc is in a packing set.
 fn enters_set(graph: &Graph, set: u16, arc: u32) -> bool
-    ensures { result ≡ enters graph.now set arc }
+    requires { arc < length graph.now.arcs }
+    ensures { result ≡ is_visit set (visit_over graph.now arc) }
 {
-    if arc >= graph.arc_count() {
-        return false;
-    }
-    let head = graph.arc(arc).head;
-    match graph.vertex(head).set {
+    match graph.vertex(graph.arc(arc).head).set {
         Some(other) => other == set,
         None => false,
     }
@@ -127,45 +132,51 @@ struct PathsOf {
 impl WalkQuantity for PathsOf {
     ghost of_walk = { λ q. is_of q.graph };
 
+    ghost is_told = { λ _ _ _. Unit {0} };
+
     fn of_walk(&self, graph: u32, _arcs: &[u32]) -> u64 {
         if graph == self.graph { 1 } else { 0 }
     }
 }
 
 /// The value of a variable.
-pub fn value(model: &Model, paths: &[Taken], var: u32) -> u128
-    requires { IsCounted paths.now }
-    ensures { result ≡ value_of model.now paths.now var }
+pub fn value(model: &Model, plan: &Plan, var: u32) -> u128
+    requires counted { IsCounted plan.now }
+    requires paths { ArePaths model.now plan.now }
+    ensures { result ≡ value_of model.now plan.now var }
 {
-    uses_total(&model.maps, paths, var)
+    uses_total(&model.maps, plan, var)
 }
 
-fn uses_total(maps: &List<List<List<u32>>>, paths: &[Taken], var: u32) -> u128
-    requires { IsCounted paths.now }
-    ensures { result ≡ quantity (uses_in maps.now var) paths.now }
+fn uses_total(maps: &List<List<List<u32>>>, plan: &Plan, var: u32) -> u128
+    requires counted { IsCounted plan.now }
+    requires mapped { All (λ t. AreMapped maps.now t.graph t.arcs) plan.now.paths }
+    ensures { result ≡ quantity (uses_in maps.now var) plan.now }
 {
-    total(&Uses { maps, var }, paths)
+    total(&Uses { maps, var }, plan)
 }
 
 /// How often a packing set is visited.
-pub fn set_visits(model: &Model, paths: &[Taken], set: u16) -> u128
-    requires { IsCounted paths.now }
-    ensures { result ≡ visits_of model.now paths.now set }
+pub fn set_visits(model: &Model, plan: &Plan, set: u16) -> u128
+    requires counted { IsCounted plan.now }
+    requires paths { ArePaths model.now plan.now }
+    ensures { result ≡ visits_of model.now plan.now set }
 {
-    visits_total(&model.graphs, paths, set)
+    visits_total(&model.graphs, plan, set)
 }
 
-fn visits_total(graphs: &List<Graph>, paths: &[Taken], set: u16) -> u128
-    requires { IsCounted paths.now }
-    ensures { result ≡ quantity (visits_in graphs.now set) paths.now }
+fn visits_total(graphs: &List<Graph>, plan: &Plan, set: u16) -> u128
+    requires counted { IsCounted plan.now }
+    requires arcs { All (λ t. AreArcsOf graphs.now t.graph t.arcs) plan.now.paths }
+    ensures { result ≡ quantity (visits_in graphs.now set) plan.now }
 {
-    total(&Visits { graphs, set }, paths)
+    total(&Visits { graphs, set }, plan)
 }
 
 /// How many paths of a graph there are.
-pub fn path_count(paths: &[Taken], graph: u32) -> u128
-    requires { IsCounted paths.now }
-    ensures { result ≡ paths_of paths.now graph }
+pub fn path_count(plan: &Plan, graph: u32) -> u128
+    requires { IsCounted plan.now }
+    ensures { result ≡ paths_of plan.now graph }
 {
-    total(&PathsOf { graph }, paths)
+    total(&PathsOf { graph }, plan)
 }

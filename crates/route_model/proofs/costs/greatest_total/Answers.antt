@@ -6,4 +6,4 @@ use Rattle.route_model.proofs.costs.greatest_total.Goals as goal
 
 pub loop-var-preserved : goal.loop-var-preserved
 loop-var-preserved c =
-    cost_step c.args.vars.now (λ j. greatest_var_cost (var_at c.args.vars.now j)) c.loop-var.var _ c.greatest_cost.result c.added-total.result (omega arith) c.loop-var.invariant (record { sfits = c.greatest_cost.type_inv }) (record { sfits = c.added-total.type_inv }) c.greatest_cost.ensures.cost c.greatest_cost.ensures.small c.added-total.ensures
+    cost_step c.args.vars.now (λ j. greatest_var_cost (var_at c.args.vars.now j)) c.loop-var.var _ c.greatest_cost.result c.sum_of-total.result (omega arith) c.loop-var.invariant (record { sfits = c.greatest_cost.type_inv }) (record { sfits = c.sum_of-total.type_inv }) c.greatest_cost.ensures.cost c.greatest_cost.ensures.small c.sum_of-total.ensures

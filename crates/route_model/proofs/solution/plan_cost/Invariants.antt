@@ -6,4 +6,4 @@ use Rattle.route_model.specs.Quantities.{value_of}
 use Rattle.route_model.proofs.solution.plan_cost.Given as goal
 
 abbrev pub invariant-loop-var : goal.invariant-loop-var
-invariant-loop-var l = IsSumWithin l.var (λ j. (var_at l.model.vars j).cost *ℤ pos (value_of l.model l.paths j)) (cost_range (take l.var l.model.vars)) l.total
+invariant-loop-var l = IsSumWithin l.var (λ j. (var_at l.model.vars j).cost *ℤ pos (value_of l.model l.plan j)) (cost_range (take l.var l.model.vars)) l.total

@@ -11,7 +11,7 @@ use Rattle.route_model.proofs.solution.var_cost.Goals as goal
 pub returns-clause-small : goal.returns-clause-small
 returns-clause-small c =
     let v = var_at c.args.model.now.vars c.args.var in
-    let n = value_of c.args.model.now c.args.paths.now c.args.var in
+    let n = value_of c.args.model.now c.args.plan.now c.args.var in
     let cost : FitsSigned w64 c.var_of.result.cost = search rules in
     let told = product_told w64 c.var_of.result.cost c.boxed_value.result c.product.result cost (record { sfits = c.boxed_value.type_inv }) (record { sfits = c.product.type_inv }) c.product.ensures in
     let same = told ∙ (ap (λ (x : Var). x.cost *ℤ c.boxed_value.result) c.var_of.ensures.var ∙ ap (λ (z : ℤ). v.cost *ℤ z) c.boxed_value.ensures.value) in
