@@ -1,4 +1,4 @@
-ghost use Rattle.std.specs.Prelude.{◌≡◌, ◌↔◌, ◌<◌, ◌^◌, IsTrue, length, map, IfOk, MatchOption};
+ghost use Rattle.std.specs.Prelude.{◌≡◌, ◌↔◌, ◌<◌, ◌^◌, IsTrue, length, map, OnOk, MatchOption};
 ghost use Rattle.label_space.specs.Rules.{Fits, Dominates};
 ghost use Rattle.label_core.specs.Tables.{IsKept};
 ghost use Rattle.label_core.specs.Puts.{beside, put_into, EachFits, CoversAt, CoversNot};
@@ -39,25 +39,25 @@ fn covers<S: Space>(space: &S, entry: &Entry<S::Label>, label: &S::Label) -> boo
     entry.gone.is_none() && space.dominates(&entry.label, label)
 }
 
-/// Each kept entry of a cell that a label dominates is gone by the place.
+/// Marks every kept entry of a cell that the label dominates as dominated by the entry at this place.
 ///
 /// The time grows as the entries of the cell.
 pub fn mark_dominated<S: Space>(
     space: &S,
     label: &S::Label,
     at: Place,
-    entries: &mut [Entry<S::Label>],
+    entries: &mut List<Entry<S::Label>>,
 )
     requires label { Fits (S.rules space.now) label.now }
     requires each { EachFits (S.rules space.now) entries.old }
     ensures { entries.new ≡ map (beside (S.rules space.now) label.now at) entries.old }
 {
     for i in 0..entries.len() {
-        mark_if(space, label, at, &mut entries[i]);
+        mark_if(space, label, at, entries.at_mut(i));
     }
 }
 
-/// The entry is gone by the place where it is kept and the label dominates it.
+/// Marks the entry as dominated by the entry at the place, where it is kept and the label dominates it.
 fn mark_if<S: Space>(space: &S, label: &S::Label, at: Place, entry: &mut Entry<S::Label>)
     requires label { Fits (S.rules space.now) label.now }
     requires entry { Fits (S.rules space.now) entry.old.label }
@@ -68,25 +68,24 @@ fn mark_if<S: Space>(space: &S, label: &S::Label, at: Place, entry: &mut Entry<S
     }
 }
 
-/// The entries of a cell after a new one has come, which takes away the kept ones that it
-/// dominates.
+/// Appends an entry to a cell, and marks the kept ones that it dominates.
+///
+/// Where memory for it is refused, the entries may be marked already.
 pub fn put_last<S: Space>(
     space: &S,
     cell: u32,
     new: Entry<S::Label>,
-    entries: List<Entry<S::Label>>,
-) -> Result<List<Entry<S::Label>>, NoMemory>
+    entries: &mut List<Entry<S::Label>>,
+) -> Result<(), NoMemory>
     requires label { Fits (S.rules space.now) new.label }
-    requires each { EachFits (S.rules space.now) entries }
-    requires few { length entries < 2 ^ 32 }
-    ensures { IfOk result (λ list. list ≡ put_into (S.rules space.now) entries cell new) }
+    requires each { EachFits (S.rules space.now) entries.old }
+    requires few { length entries.old < 2 ^ 32 }
+    ensures { OnOk result (entries.new ≡ put_into (S.rules space.now) entries.old cell new) }
 {
     let at = Place {
         cell,
         index: entries.len() as u32,
     };
-    let mut items = entries.into_vec();
-    mark_dominated(space, &new.label, at, items.as_mut_slice());
-    items.push(new)?;
-    Ok(List::from_vec(items))
+    mark_dominated(space, &new.label, at, entries);
+    entries.push(new)
 }

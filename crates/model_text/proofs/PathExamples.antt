@@ -11,6 +11,7 @@ use Rattle.model_text.specs.Spelling.{in_printed_form, lines_with_words}
 use Rattle.model_text.specs.PathText.{plan_lines, plan_text}
 use Rattle.model_text.specs.PathFault.{plan_read}
 use Rattle.model_text.specs.ModelEnd.{model_end}
+use Rattle.route_model.specs.Parts.{plan_with}
 
 abbrev joined : List (List ℕ) → List ℕ
 joined lines = flat_map (λ line. line ++ 10 ∷ []) lines
@@ -26,11 +27,11 @@ three_paths =
 abbrev three_lines : List (List ℕ)
 three_lines = codes "path 0 1 3 7" ∷ codes "path 1 2 4294967295" ∷ codes "path 0 4095 0" ∷ codes "end" ∷ []
 
-three_paths_text : plan_text three_paths ≡ joined three_lines
+three_paths_text : plan_text (plan_with three_paths) ≡ joined three_lines
 unfolding digits
 three_paths_text = refl
 
-three_paths_words : lines_with_words (joined three_lines) ≡ plan_lines three_paths
+three_paths_words : lines_with_words (joined three_lines) ≡ plan_lines (plan_with three_paths)
 unfolding digits
 three_paths_words = refl
 
@@ -45,7 +46,7 @@ other_text =
 other_back : plan_read other_text ≡ Ok three_paths
 other_back = refl
 
-other_words : map (map in_printed_form) (lines_with_words other_text) ≡ plan_lines three_paths
+other_words : map (map in_printed_form) (lines_with_words other_text) ≡ plan_lines (plan_with three_paths)
 unfolding digits
 other_words = refl
 

@@ -21,6 +21,7 @@ use Rattle.model_text.proofs.FitLemmas.{GivesOnly, natural_in-in, to_the_end-kee
 use Rattle.model_text.proofs.FitLemmas as fits
 use Rattle.model_text.proofs.SpendLemmas.{Spends, natural_in-spends, to_the_end-spends, after, next_is, checked, both, given}
 use Rattle.model_text.proofs.TextFitLemmas.{taken}
+use Rattle.route_model.specs.Parts.{plan_with}
 
 abbrev IsName : ℕ → Type 0
 IsName n = n ≤ 4294967295
@@ -54,13 +55,13 @@ abbrev numbers_of : Taken → Words
 numbers_of t = decimal t.graph ∷ decimal t.count ∷ map decimal t.arcs
 
 abbrev HasRoom : List Taken → Taken → Type 0
-HasRoom paths t = paths_of paths t.graph + t.count ≤ 4096
+HasRoom paths t = paths_of (plan_with paths) t.graph + t.count ≤ 4096
 
 path-fits : (paths : List Taken) → GivesOnly (path_wanted paths) (λ t. PathFits t × HasRoom paths t)
 path-fits paths =
     fits.after name-fits (λ graph g.
     fits.after (natural_in-in 1 4096) (λ count c.
-    fits.checked fault.TooMany (nat_lt 4096 (paths_of paths graph + count)) (λ room.
+    fits.checked fault.TooMany (nat_lt 4096 (paths_of (plan_with paths) graph + count)) (λ room.
     fits.after arcs-fit (λ arcs a.
     fits.given (record { graph = graph; count = count; arcs = arcs })
     (record { graph = g; count = c; some_arcs = a.0; arcs = a.1 }, grind (arith, nat_tests, room))))))
@@ -69,7 +70,7 @@ path-spends : (paths : List Taken) → Spends (path_wanted paths) (λ t ws. ws �
 path-spends paths =
     next_is name-spends (λ graph.
     next_is (natural_in-spends 1 4096) (λ count.
-    checked fault.TooMany (nat_lt 4096 (paths_of paths graph + count)) (λ room.
+    checked fault.TooMany (nat_lt 4096 (paths_of (plan_with paths) graph + count)) (λ room.
     next_is arcs-spends (λ arcs.
     given (record { graph = graph; count = count; arcs = arcs })
     (ap (λ ws. decimal graph ∷ decimal count ∷ ws) (append-nil (map decimal arcs)))))))
@@ -79,7 +80,7 @@ pub record TellsPath (d e : PlanDraft) (words : Words) : Type 0 where
   pub path : Taken
   pub numbers : words ≡ decimal path.graph ∷ decimal path.count ∷ map decimal path.arcs
   pub fits : PathFits path
-  pub room : paths_of d.paths path.graph + path.count ≤ 4096
+  pub room : paths_of (plan_with d.paths) path.graph + path.count ≤ 4096
   pub next : e ≡ record d { paths = d.paths ++ path ∷ [] }
 
 with_path-tells : (d : PlanDraft) → Spends (with_path d) (TellsPath d)

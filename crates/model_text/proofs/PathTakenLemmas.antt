@@ -18,6 +18,7 @@ use Rattle.model_text.specs.PathFault.{name_wanted, arcs_wanted, path_wanted, wi
 use Rattle.model_text.proofs.NumberWordLemmas.{plain_is}
 use Rattle.model_text.proofs.RowTakenLemmas.{at_seam}
 use Rattle.model_text.proofs.TakenLemmas.{Takes, given, and_takes, and_none, unless, natural_takes, items_taken, headed, no_items}
+use Rattle.route_model.specs.Parts.{plan_with}
 
 name_takes : (n : ℕ) → n ≤ 4294967295 → (left : Words) → Takes name_wanted (decimal n ∷ []) n left
 name_takes n few left = natural_takes 0 4294967295 n refl (omega arith) few left
@@ -37,19 +38,19 @@ arcs_take (first ∷ others) some all =
     (items_taken (λ _. name_wanted) (λ n. decimal n ∷ []) others (λ n. omega arith) (λ front n back is left. name_takes n (name_among front n back others is tail) left)))
     (given (first ∷ others) []))
 
-path_takes : (paths : List Taken) (t : Taken) → PathFits t → paths_of paths t.graph + t.count ≤ 4096 → Takes (path_wanted paths) (decimal t.graph ∷ decimal t.count ∷ map decimal t.arcs) t []
+path_takes : (paths : List Taken) (t : Taken) → PathFits t → paths_of (plan_with paths) t.graph + t.count ≤ 4096 → Takes (path_wanted paths) (decimal t.graph ∷ decimal t.count ∷ map decimal t.arcs) t []
 path_takes paths t fit room =
     and_takes _ (name_takes t.graph fit.graph)
     (and_takes _ (natural_takes 1 4096 t.count refl fit.count.0 fit.count.1)
-    (unless fault.TooMany (nat_lt 4096 (paths_of paths t.graph + t.count)) (grind (arith, nat_tests, room))
+    (unless fault.TooMany (nat_lt 4096 (paths_of (plan_with paths) t.graph + t.count)) (grind (arith, nat_tests, room))
     (and_none _ (arcs_take t.arcs fit.some_arcs fit.arcs) (given t []))))
 
-with_path_takes : (d : PlanDraft) (t : Taken) → PathFits t → paths_of d.paths t.graph + t.count ≤ 4096 → Takes (with_path d) (decimal t.graph ∷ decimal t.count ∷ map decimal t.arcs) (record d { paths = d.paths ++ t ∷ [] }) []
+with_path_takes : (d : PlanDraft) (t : Taken) → PathFits t → paths_of (plan_with d.paths) t.graph + t.count ≤ 4096 → Takes (with_path d) (decimal t.graph ∷ decimal t.count ∷ map decimal t.arcs) (record d { paths = d.paths ++ t ∷ [] }) []
 with_path_takes d t fit room =
     and_none _ (path_takes d.paths t fit room) (given (record d { paths = d.paths ++ t ∷ [] }) [])
 
 -- a line before the end
-pub path_line_read : (d : PlanDraft) (t : Taken) (words : Words) → d.ended ≡ false → PathFits t → paths_of d.paths t.graph + t.count ≤ 4096 → map in_printed_form words ≡ path_words t → plan_words_read d d.ended words ≡ Ok (record d { paths = d.paths ++ t ∷ [] })
+pub path_line_read : (d : PlanDraft) (t : Taken) (words : Words) → d.ended ≡ false → PathFits t → paths_of (plan_with d.paths) t.graph + t.count ≤ 4096 → map in_printed_form words ≡ path_words t → plan_words_read d d.ended words ≡ Ok (record d { paths = d.paths ++ t ∷ [] })
 path_line_read d t words going fit room printed =
     let split = headed in_printed_form words (codes "path") (decimal t.graph ∷ decimal t.count ∷ map decimal t.arcs) printed in
     let whole : words ≡ codes "path" ∷ split.others = split.is ∙ ap (λ w. w ∷ split.others) (plain_is split.first (codes "path") refl split.head) in

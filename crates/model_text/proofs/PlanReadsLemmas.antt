@@ -17,6 +17,7 @@ use Rattle.model_text.proofs.LineTakenLemmas.{wordy, AreAccepted, printed_lines}
 use Rattle.model_text.proofs.TextFitLemmas.{else_arm, next_of}
 use Rattle.model_text.proofs.PathWordLemmas.{few_push}
 use Rattle.model_text.proofs.PathSpendLemmas.{IsPathLine, IsEndLine, path_or_end-told}
+use Rattle.route_model.specs.Parts.{plan_with}
 
 abbrev IsGood : List ℕ → Type 0
 IsGood line = has_bad_byte line ≡ false
@@ -52,10 +53,10 @@ behind_end d e n (line ∷ lines) ended h =
 pub record TellsPaths (d e : PlanDraft) (lines : List (List ℕ)) : Type 0 where
   pub accepted : AreAccepted lines
   pub paths : List Taken
-  pub words : printed_lines lines ≡ plan_lines paths
+  pub words : printed_lines lines ≡ plan_lines (plan_with paths)
   pub next : e.paths ≡ d.paths ++ paths
   pub each : All PathFits paths
-  pub few : AreFew e.paths
+  pub few : AreFew (plan_with e.paths)
 
 path_first : (d next e : PlanDraft) (line first : List ℕ) (words : Words) (lines : List (List ℕ)) → IsGood line → words_of line ≡ first ∷ words → IsPathLine d next first words → TellsPaths next e lines → TellsPaths d e (line ∷ lines)
 path_first d next e line first words lines accepted is path rest =
@@ -71,7 +72,7 @@ path_first d next e line first words lines accepted is path rest =
       few = rest.few;
     }
 
-end_first : (d next e : PlanDraft) (line first : List ℕ) (words : Words) (lines : List (List ℕ)) → IsGood line → AreFew d.paths → words_of line ≡ first ∷ words → IsEndLine d next first words → SaysNothing next e lines → TellsPaths d e (line ∷ lines)
+end_first : (d next e : PlanDraft) (line first : List ℕ) (words : Words) (lines : List (List ℕ)) → IsGood line → AreFew (plan_with d.paths) → words_of line ≡ first ∷ words → IsEndLine d next first words → SaysNothing next e lines → TellsPaths d e (line ∷ lines)
 end_first d next e line first words lines accepted few is end rest =
     let same : e.paths ≡ d.paths = ap (λ (f : PlanDraft). f.paths) (rest.same ∙ end.next) in
     let printed : map in_printed_form (first ∷ words) ≡ codes "end" ∷ [] = ap (λ w. in_printed_form w ∷ map in_printed_form words) end.named ∙ ap (λ ws. codes "end" ∷ map in_printed_form ws) end.none in
@@ -81,7 +82,7 @@ end_first d next e line first words lines accepted few is end rest =
       words = ap (λ (ws : Words). map (map in_printed_form) (filter are_some_words (ws ∷ map words_of lines))) is ∙ (ap (λ ws. ws ∷ printed_lines lines) printed ∙ ap (λ ls. (codes "end" ∷ []) ∷ map (map in_printed_form) ls) rest.none);
       next = same ∙ sym (append-nil d.paths);
       each = All-nil PathFits;
-      few = subst AreFew (sym same) few;
+      few = subst (λ ts. AreFew (plan_with ts)) (sym same) few;
     }
 
 blank_first : (d next e : PlanDraft) (line : List ℕ) (lines : List (List ℕ)) → IsGood line → words_of line ≡ [] → next ≡ d → TellsPaths next e lines → TellsPaths d e (line ∷ lines)
@@ -96,19 +97,19 @@ blank_first d next e line lines accepted is same rest =
     }
 
 -- the lines before the end, line by line
-by_words : (d next e : PlanDraft) (line : List ℕ) (lines : List (List ℕ)) (words : Words) → d.ended ≡ false → AreFew d.paths → IsGood line → words_of line ≡ words → plan_words_read d d.ended words ≡ Ok next → (next.ended ≡ false → AreFew next.paths → TellsPaths next e lines) → (next.ended ≡ true → SaysNothing next e lines) → TellsPaths d e (line ∷ lines)
+by_words : (d next e : PlanDraft) (line : List ℕ) (lines : List (List ℕ)) (words : Words) → d.ended ≡ false → AreFew (plan_with d.paths) → IsGood line → words_of line ≡ words → plan_words_read d d.ended words ≡ Ok next → (next.ended ≡ false → AreFew (plan_with next.paths) → TellsPaths next e lines) → (next.ended ≡ true → SaysNothing next e lines) → TellsPaths d e (line ∷ lines)
 by_words d next e line lines [] going few accepted is h later behind =
     let same : d ≡ next = cc in
-    blank_first d next e line lines accepted is (sym same) (later (ap (λ (f : PlanDraft). f.ended) (sym same) ∙ going) (subst (λ (f : PlanDraft). AreFew f.paths) same few))
+    blank_first d next e line lines accepted is (sym same) (later (ap (λ (f : PlanDraft). f.ended) (sym same) ∙ going) (subst (λ (f : PlanDraft). AreFew (plan_with f.paths)) same few))
 by_words d next e line lines (first ∷ words) going few accepted is h later behind =
     elim (path_or_end-told d next first words (ap (λ b. plan_words_read d b (first ∷ words)) (sym going) ∙ h)) [
       | inl path ↦
-          let next_few = subst (λ (f : PlanDraft). AreFew f.paths) (sym path.tells.next) (few_push d.paths path.tells.path few path.tells.room) in
+          let next_few = subst (λ (f : PlanDraft). AreFew (plan_with f.paths)) (sym path.tells.next) (few_push d.paths path.tells.path few path.tells.room) in
           path_first d next e line first words lines accepted is path (later (ap (λ (f : PlanDraft). f.ended) path.tells.next ∙ going) next_few)
       | inr end ↦ end_first d next e line first words lines accepted few is end (behind (ap (λ (f : PlanDraft). f.ended) end.next))
     ]
 
-lines_tell : (d e : PlanDraft) (n : ℕ) (lines : List (List ℕ)) → d.ended ≡ false → e.ended ≡ true → AreFew d.paths → plan_lines_read d n lines ≡ Ok e → TellsPaths d e lines
+lines_tell : (d e : PlanDraft) (n : ℕ) (lines : List (List ℕ)) → d.ended ≡ false → e.ended ≡ true → AreFew (plan_with d.paths) → plan_lines_read d n lines ≡ Ok e → TellsPaths d e lines
 lines_tell d e n [] going ended few h =
     let same : d ≡ e = cc in
     let clash : false ≡ true = sym going ∙ (ap (λ (f : PlanDraft). f.ended) same ∙ ended) in
@@ -130,13 +131,13 @@ after_lines (Ok e) text paths h = by_end e.ended refl h
     by_end true is h = let same : e.paths ≡ paths = cc in (e, refl, is, same)
     by_end false is h = cc
 
-pub plan_reads_spelled : (text : List ℕ) (paths : List Taken) → plan_read text ≡ Ok paths → SpellsPlan text paths
+pub plan_reads_spelled : (text : List ℕ) (paths : List Taken) → plan_read text ≡ Ok paths → SpellsPlan text (plan_with paths)
 plan_reads_spelled text paths h =
     let read = after_lines (plan_lines_read empty_plan 1 (lines_of text)) text paths h in
     let all = lines_tell empty_plan read.0 1 (lines_of text) refl read.2 (λ g. omega arith) read.1 in
     let same : all.paths ≡ paths = sym all.next ∙ read.3 in
     record {
       accepted = all.accepted;
-      words = all.words ∙ ap plan_lines same;
-      fits = record { each = subst (All PathFits) same all.each; few = subst AreFew read.3 all.few };
+      words = all.words ∙ ap (λ ts. plan_lines (plan_with ts)) same;
+      fits = record { each = subst (All PathFits) same all.each; few = subst (λ ts. AreFew (plan_with ts)) read.3 all.few };
     }

@@ -2,6 +2,7 @@
 use Rattle.std.specs.Prelude.{◌≡◌, ℕ, ◌+◌, List, [], ◌∷◌, ◌++◌, codes, Bool, true, false, ◌==◌, nat_lt, if◌then◌else◌, count_by, Result, Ok, Err}
 use Rattle.std.specs.Str.{bytes_eq}
 use Rattle.route_model.specs.declared.plan.Taken.{Taken}
+use Rattle.route_model.specs.Parts.{plan_with}
 use Rattle.route_model.specs.Quantities.{paths_of}
 use Rattle.vrp_lex.specs.Text.{lines_of, words_of, has_bad_byte}
 use Rattle.model_text.specs.declared.kind.Kind.{Kind}
@@ -30,7 +31,7 @@ abbrev pub path_wanted : List Taken → Wants Taken
 path_wanted paths = do
   graph ← name_wanted
   count ← natural_in 1 4096
-  fault_if fault.TooMany (nat_lt 4096 (paths_of paths graph + count))
+  fault_if fault.TooMany (nat_lt 4096 (paths_of (plan_with paths) graph + count))
   arcs ← arcs_wanted
   give (record { graph = graph; count = count; arcs = arcs })
 

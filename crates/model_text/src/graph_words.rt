@@ -12,7 +12,7 @@ use crate::draft::Section;
 use crate::kind::Kind;
 use crate::line_words::{is_above, need_of, set_of, window_of};
 use crate::wanted::{LineFault, fault_if, has_word, known_below, natural_in};
-use path_graph::{Ends, GraphArc, List, Vertex, Window};
+use path_graph::{Ends, GraphArc, List, Vertex, Window, is_used};
 use std::alloc::Global;
 
 /// The sum of the high path counts.
@@ -57,18 +57,6 @@ pub fn graph_of<'a>(
         seconds: seconds as u8,
     };
     Ok(((count, ends), words))
-}
-
-/// Whether a position has a resource.
-fn is_used(ends: &Ends, place: usize) -> bool
-    requires { place < 6 }
-    ensures { result ≡ is_used_at ends.now place }
-{
-    if place < 2 {
-        place < ends.mains as usize
-    } else {
-        place < 2 + ends.seconds as usize
-    }
 }
 
 const NO_WINDOW: Window = Window { low: 0, high: 0 };

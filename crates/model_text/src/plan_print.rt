@@ -22,9 +22,9 @@ fn print_paths(text: &mut LineWriter, paths: &[Taken]) -> Result<(), NoMemory>
 /// There is one blank between words, no comment, no leading zero, and LF after each line. The time is linear in the
 /// text.
 pub fn print_plan(alloc: Global, plan: &Plan) -> Result<List<u8>, NoMemory>
-    requires { PlanFits plan.now.paths }
-    ensures text { IfOk result (λ bytes. bytes ≡ plan_text plan.now.paths) }
-    ensures spells { IfOk result (λ bytes. SpellsPlan bytes plan.now.paths) }
+    requires { PlanFits plan.now }
+    ensures text { IfOk result (λ bytes. bytes ≡ plan_text plan.now) }
+    ensures spells { IfOk result (λ bytes. SpellsPlan bytes plan.now) }
 {
     let mut text = LineWriter::new(alloc);
     print_paths(&mut text, plan.paths.as_slice())?;

@@ -1,5 +1,5 @@
 ghost use Rattle.std.specs.Prelude.{◌≡◌, ◌==◌, ◌+◌, ◌<◌, ◌≤◌, ◌-◌, ◌^◌, List, OnOk, IfOk, IfErr, length};
-ghost use Rattle.route_model.specs.declared.plan.Taken.{Taken};
+ghost use Rattle.route_model.specs.declared.plan.Plan.{Plan};
 ghost use Rattle.vrp_lex.specs.Text.{lines_of};
 ghost use Rattle.vrp_lex.specs.Places.{IsInText, bytes_of};
 ghost use Rattle.model_text.specs.FirstFault.{at_line};
@@ -83,9 +83,8 @@ fn read_paths(alloc: Global, text: &[u8]) -> Result<List<Taken>, ReadError>
 /// linear in the text, but for the count of each graph so far, which is looked up in a tree for each path.
 pub fn read_plan(alloc: Global, bytes: &[u8]) -> Result<Plan, ReadError>
     requires { length bytes.now < 2 ^ 32 - 1 }
-    ensures ok { IfOk result (λ plan. SpellsPlan bytes.now plan.paths) }
-    ensures only { IfOk result (λ plan.
-        (paths : List Taken) → SpellsPlan bytes.now paths → paths ≡ plan.paths) }
+    ensures ok { IfOk result (SpellsPlan bytes.now) }
+    ensures only { IfOk result (λ plan. (other : Plan) → SpellsPlan bytes.now other → other ≡ plan) }
     ensures refused { IfErr result (IsPathRefusal bytes.now) }
 {
     let paths = read_paths(alloc, bytes)?;

@@ -1,4 +1,5 @@
 ghost use Rattle.std.specs.Prelude.{◌↔◌, ◌<◌, IfSome, IsNone};
+ghost use Rattle.path_graph.specs.declared.limits.TheConstants.{MAX_SETS};
 ghost use Rattle.path_graph.specs.SetBits.{IsWhole};
 ghost use Rattle.ng_sets.specs.Memory.{IsRemembered, Remembers};
 
@@ -12,7 +13,7 @@ use path_graph::SetBits;
 /// With memory 0, 2 and near 0, 1 a visit to set 1 leaves 0, 1, a visit to set 2 is refused, and a visit to no set
 /// leaves 0. So set 2 is forgotten by the visit to 1, and may be visited next: that is what the relaxation allows.
 pub fn visit(memory: &SetBits, near: &SetBits, set: Option<u16>) -> Option<SetBits>
-    requires { IfSome set (λ s. s < 512) }
+    requires { IfSome set (λ s. s < MAX_SETS) }
     ensures refused { IsNone result ↔ IsRemembered memory.now set }
     ensures after { IfSome result (Remembers memory.now near.now set) }
     ensures whole { IfSome result IsWhole }

@@ -12,7 +12,6 @@ use label_core::{Entry, Fate, Origin, Place, Turn, kept_dominator, put_last};
 use label_space::Space;
 use path_graph::{List, NoMemory};
 use std::alloc::Global;
-use std::mem;
 
 /// Extends the entry whose turn it is over each of its choices, where it is kept and fresh.
 pub fn work_on_next<S: Space>(
@@ -74,12 +73,7 @@ fn extend_over_all<S: Space>(
             Step::Wall => return Ok(Step::Wall),
         }
     }
-    finish(
-        alloc,
-        parent,
-        List::from_vec(fates),
-        filling.cells.as_mut_slice(),
-    );
+    finish(parent, List::from_vec(fates), filling.cells.as_mut_slice());
     Ok(Step::Went)
 }
 
@@ -116,7 +110,7 @@ fn extend_once<S: Space>(
     if filling.order.len() >= limit as usize {
         return Ok(Step::Wall);
     }
-    let place = put(alloc, space, cell, child(longer, origin), filling)?;
+    let place = put(space, cell, child(longer, origin), filling)?;
     fates.push(Fate::At(place))?;
     Ok(Step::Went)
 }
@@ -135,7 +129,6 @@ fn child<L>(label: L, origin: Origin) -> Entry<L>
 
 /// Puts an entry into a cell, and last into the order.
 fn put<S: Space>(
-    alloc: Global,
     space: &S,
     cell: u32,
     new: Entry<S::Label>,
@@ -157,29 +150,26 @@ fn put<S: Space>(
         cell,
         index: slot.len() as u32,
     };
-    let entries = mem::replace(slot, List::new(alloc));
-    *slot = put_last(space, cell, new, entries)?;
+    put_last(space, cell, new, slot)?;
     filling.order.push(place)?;
     Ok(place)
 }
 
 /// The entry at a place is done, with these fates.
-fn finish<L: Drop>(alloc: Global, place: Place, fates: List<Fate>, cells: &mut [List<Entry<L>>])
+fn finish<L: Drop>(place: Place, fates: List<Fate>, cells: &mut [List<Entry<L>>])
     requires { (e : Entry L) × StandsAt cells.old place e }
     ensures { (e : Entry L) → StandsAt cells.old place e
         → cells.new ≡ set_at cells.old place (with_turn (Turn.Done fates) e) }
 {
-    let slot = &mut cells[place.cell as usize];
-    let mut entries = mem::replace(slot, List::new(alloc)).into_vec();
-    end_turn(entries.as_mut_slice(), place.index, fates);
-    *slot = List::from_vec(entries);
+    let entries = &mut cells[place.cell as usize];
+    end_turn(entries, place.index, fates);
 }
 
 /// The entry at an index of a cell is done, with these fates.
-fn end_turn<L: Drop>(entries: &mut [Entry<L>], index: u32, fates: List<Fate>)
+fn end_turn<L: Drop>(entries: &mut List<Entry<L>>, index: u32, fates: List<Fate>)
     requires { index < length entries.old }
     ensures { (e : Entry L) → slice_get entries.old index ≡ Some e
         → entries.new ≡ slice_set entries.old index (with_turn (Turn.Done fates) e) }
 {
-    entries[index as usize].turn = Turn::Done(fates);
+    entries.at_mut(index as usize).turn = Turn::Done(fates);
 }

@@ -6,7 +6,8 @@ use Rattle.rank1_cuts.specs.declared.cut.Cut.{Cut}
 use Rattle.rank1_cuts.specs.declared.cut.CutSet.{CutSet}
 use Rattle.rank1_cuts.specs.declared.cut.CutFault.{CutFault}
 use Rattle.rank1_cuts.specs.declared.cut.CutFault.TheVariants.{Denominator, Empty, Long, Repeated, Numerator}
-use Rattle.rank1_cuts.specs.Fit.{IsDenominator, EachBelow, IsFirst, IsRepeated, HasNumerator, item_at, CutFits, IsFault}
+use Rattle.path_graph.specs.First.{EachBelow}
+use Rattle.rank1_cuts.specs.Fit.{IsDenominator, IsFirst, IsRepeated, HasNumerator, item_at, CutFits, IsFault}
 
 -- the first number is one
 first_one : (n : ℕ) (P : ℕ → Type 0) (i j : ℕ) → IsFirst n P i → IsFirst n P j → i ≡ j

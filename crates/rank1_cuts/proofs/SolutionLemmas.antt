@@ -1,14 +1,16 @@
 -- Every solution keeps a cut that fits, whatever its memory.
 use Rattle.std.proofs.Common.{◌≡◌, ℕ, ◌+◌, ◌*◌, ◌≤◌, List, [], ◌∷◌, Option, None, Some, ◌==◌, mul-add, mul_comm, mul_left_comm, mul-le-mul_left, refl, ◌∙◌, ap, arith, inl, inr}
-use Rattle.std.specs.Prelude.{if◌then◌else◌, sum_by, count_by}
+use Rattle.std.specs.Prelude.{if◌then◌else◌, sum_by}
 use Rattle.std.proofs.lemmas.List.Sums.{sum_by-cons}
 use Rattle.std.proofs.lemmas.Nat.{le-div}
 use Rattle.std.proofs.lemmas.Bool.{cases_Bool}
+use Rattle.std.proofs.lemmas.Bool.Decides.{nat_tests}
+use Rattle.path_graph.specs.Visits.{is_visit, visit_count}
 use Rattle.rank1_cuts.specs.declared.cut.Cut.{Cut}
 use Rattle.rank1_cuts.specs.declared.cut.CutSet.{CutSet}
 use Rattle.rank1_cuts.specs.Fit.{CutFits, right_side_of}
 use Rattle.rank1_cuts.specs.Visits.{numerator_of, state_from, coef_of}
-use Rattle.rank1_cuts.specs.Solutions.{TakenWalk, is_visit, visits_in, VisitEachOnce, coef_in}
+use Rattle.rank1_cuts.specs.Solutions.{TakenWalk, visits_in, VisitEachOnce, coef_in}
 use Rattle.rank1_cuts.proofs.VisitsLemmas.{rises_from-most}
 
 -- the numerator of a visit's set among the sets of a list
@@ -24,12 +26,13 @@ weight sets walks = sum_by (λ (w : TakenWalk). w.0 * sum_by (among sets) w.1) w
 visit_weighs : (each : CutSet) (rest : List CutSet) (visit : Option ℕ) → among (each ∷ rest) visit ≤ each.num * (if is_visit each.set visit then 1 else 0) + among rest visit
 visit_weighs each rest None = omega arith
 visit_weighs each rest (Some s) =
+    let turned : (s == each.set) ≡ (each.set == s) = grind (arith, nat_tests) in
     elim (cases_Bool (each.set == s)) [
-      | inl e ↦ rw e (omega arith)
-      | inr e ↦ rw e (omega arith)
+      | inl e ↦ rw (turned, e) (omega arith)
+      | inr e ↦ rw (turned, e) (omega arith)
     ]
 
-visits_weigh : (each : CutSet) (rest : List CutSet) (visits : List (Option ℕ)) → sum_by (among (each ∷ rest)) visits ≤ each.num * count_by (is_visit each.set) visits + sum_by (among rest) visits
+visits_weigh : (each : CutSet) (rest : List CutSet) (visits : List (Option ℕ)) → sum_by (among (each ∷ rest)) visits ≤ each.num * visit_count each.set visits + sum_by (among rest) visits
 visits_weigh each rest [] = omega arith
 visits_weigh each rest (visit ∷ more) =
     let one : ℕ = if is_visit each.set visit then 1 else 0 in
@@ -37,9 +40,9 @@ visits_weigh each rest (visit ∷ more) =
     let later = visits_weigh each rest more in
     let whole : sum_by (among (each ∷ rest)) (visit ∷ more) ≡ among (each ∷ rest) visit + sum_by (among (each ∷ rest)) more = sum_by-cons (among (each ∷ rest)) visit more in
     let less : sum_by (among rest) (visit ∷ more) ≡ among rest visit + sum_by (among rest) more = sum_by-cons (among rest) visit more in
-    let counted : count_by (is_visit each.set) (visit ∷ more) ≡ one + count_by (is_visit each.set) more = sum_by-cons (λ (v : Option ℕ). if is_visit each.set v then 1 else 0) visit more in
-    let parts : each.num * count_by (is_visit each.set) (visit ∷ more) ≡ each.num * one + each.num * count_by (is_visit each.set) more =
-    ap (λ (n : ℕ). each.num * n) counted ∙ mul-add each.num one (count_by (is_visit each.set) more) in
+    let counted : visit_count each.set (visit ∷ more) ≡ one + visit_count each.set more = sum_by-cons (λ (v : Option ℕ). if is_visit each.set v then 1 else 0) visit more in
+    let parts : each.num * visit_count each.set (visit ∷ more) ≡ each.num * one + each.num * visit_count each.set more =
+    ap (λ (n : ℕ). each.num * n) counted ∙ mul-add each.num one (visit_count each.set more) in
     omega (arith, here, later, whole, less, parts)
 
 -- a number of times a sum of a product and a term
@@ -50,13 +53,13 @@ walks_weigh : (each : CutSet) (rest : List CutSet) (walks : List TakenWalk) → 
 walks_weigh each rest [] = omega arith
 walks_weigh each rest (w ∷ more) =
     let sets : List CutSet = each ∷ rest in
-    let k : ℕ = count_by (is_visit each.set) w.1 in
+    let k : ℕ = visit_count each.set w.1 in
     let r : ℕ = sum_by (among rest) w.1 in
     let here : w.0 * sum_by (among sets) w.1 ≤ w.0 * (each.num * k + r) = mul-le-mul_left w.0 (visits_weigh each rest w.1) in
     let later = walks_weigh each rest more in
     let whole : weight sets (w ∷ more) ≡ w.0 * sum_by (among sets) w.1 + weight sets more = sum_by-cons (λ (v : TakenWalk). v.0 * sum_by (among sets) v.1) w more in
     let less : weight rest (w ∷ more) ≡ w.0 * r + weight rest more = sum_by-cons (λ (v : TakenWalk). v.0 * sum_by (among rest) v.1) w more in
-    let counted : visits_in (w ∷ more) each.set ≡ w.0 * k + visits_in more each.set = sum_by-cons (λ (v : TakenWalk). v.0 * count_by (is_visit each.set) v.1) w more in
+    let counted : visits_in (w ∷ more) each.set ≡ w.0 * k + visits_in more each.set = sum_by-cons (λ (v : TakenWalk). v.0 * visit_count each.set v.1) w more in
     let parts : each.num * visits_in (w ∷ more) each.set ≡ each.num * (w.0 * k) + each.num * visits_in more each.set =
     ap (λ (n : ℕ). each.num * n) counted ∙ mul-add each.num (w.0 * k) (visits_in more each.set) in
     omega (arith, here, times_sum w.0 each.num k r, later, whole, less, parts)

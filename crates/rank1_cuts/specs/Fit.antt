@@ -1,5 +1,6 @@
 -- Which rank-1 cuts fit, the first fault of one that does not, and the right side.
 use Rattle.std.specs.Prelude.{◌≡◌, ℕ, ◌/◌, ◌<◌, ◌≤◌, List, length, slice_index_or, sum_by}
+use Rattle.path_graph.specs.First.{EachBelow}
 use Rattle.rank1_cuts.specs.declared.cut.Cut.{Cut}
 use Rattle.rank1_cuts.specs.declared.cut.CutSet.{CutSet}
 use Rattle.rank1_cuts.specs.declared.cut.CutFault.{CutFault}
@@ -27,10 +28,6 @@ IsNumerator den num = (1 ≤ num) × (num < den)
 -- there is one at the place
 abbrev pub HasNumerator : ℕ → List CutSet → ℕ → Type 0
 HasNumerator den sets k = IsNumerator den (item_at sets k).num
-
--- P holds at each number below n
-abbrev pub EachBelow : ℕ → (ℕ → Type 0) → Type 0
-EachBelow n P = (k : ℕ) → k < n → P k
 
 -- k is the first number below n at which P holds
 pub record IsFirst (n : ℕ) (P : ℕ → Type 0) (k : ℕ) : Type 0 where

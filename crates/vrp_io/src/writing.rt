@@ -12,10 +12,9 @@ pub fn write_all<K: Sink>(sink: &mut K, bytes: &[u8]) -> Result<(), WriteFault>
     ensures ok { OnOk result (Appends (K.written sink.old) (K.written sink.new) bytes.now) }
     ensures prefix { AppendedPrefix (K.written sink.old) (K.written sink.new) bytes.now }
 
-    // A fault is answered where one came, and none is passed over.
+    // A fault is answered only where one came.
     ensures write { result ≡ Err WriteFault.Write →
         Rose (K.faults sink.old) (K.faults sink.new) }
-    ensures kept { OnOk result (K.faults sink.new ≡ K.faults sink.old) }
     ensures later { K.faults sink.old ≤ K.faults sink.new }
 
     // Each write is handed all that is left, up to the end or the fault.

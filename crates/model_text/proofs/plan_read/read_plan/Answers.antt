@@ -12,4 +12,4 @@ pub returns-clause-ok : goal.returns-clause-ok
 returns-clause-ok c = plan_reads_spelled c.args.bytes.now c.in_ok-paths.paths c.in_ok-paths.ensures
 
 pub returns-clause-only : goal.returns-clause-only
-returns-clause-only c paths spells = spelled_is_read c.args.bytes.now paths c.in_ok-paths.paths spells c.in_ok-paths.ensures
+returns-clause-only c other spells = spelled_is_read c.args.bytes.now other c.in_ok-paths.paths spells c.in_ok-paths.ensures

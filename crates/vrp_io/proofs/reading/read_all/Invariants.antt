@@ -1,4 +1,4 @@
-use Rattle.std.proofs.Common.{◌≡◌, ◌≤◌, ◌-◌, ◌+◌, length, vec_len}
+use Rattle.std.proofs.Common.{◌≤◌, ◌-◌, ◌+◌, length, vec_len}
 use Rattle.std.specs.Io.KnownBytes.{Consumes}
 use Rattle.vrp_io.proofs.reading.read_all.Given as goal
 
@@ -7,7 +7,7 @@ invariant-loop-source g l =
     record {
       few : length l.bytes.items ≤ l.most;
       taken : Consumes (g.S.Source.left l.fn.source) (g.S.Source.left l.source) l.bytes.items;
-      kept : g.S.Source.faults l.source ≡ g.S.Source.faults l.fn.source;
+      later : g.S.Source.faults l.fn.source ≤ g.S.Source.faults l.source;
       reads : g.S.Source.calls l.source ≤ g.S.Source.calls l.fn.source + length l.bytes.items;
     }
 

@@ -8,7 +8,7 @@ invariant-loop-rest g l =
     record {
       front : (front : List ℕ) × (l.fn.bytes ≡ front ++ l.rest) × Appends (g.K.Sink.written l.fn.sink) (g.K.Sink.written l.sink) front;
       handed : Handed g.K.Sink.wrote l.fn.sink l.fn.bytes l.sink l.rest;
-      kept : g.K.Sink.faults l.sink ≡ g.K.Sink.faults l.fn.sink;
+      later : g.K.Sink.faults l.fn.sink ≤ g.K.Sink.faults l.sink;
       writes : g.K.Sink.calls l.sink + length l.rest ≤ g.K.Sink.calls l.fn.sink + length l.fn.bytes;
     }
 

@@ -1,6 +1,6 @@
 use Rattle.std.proofs.Common.{◌≡◌, ◌+◌, ◌<◌, ◌≤◌, drop}
 use Rattle.rank1_cuts.specs.Visits.{coef_of, rises_from}
-use Rattle.rank1_cuts.proofs.visits.coef.Given as goal
+use Rattle.rank1_cuts.proofs.visits.rise_count.Given as goal
 
 -- what is counted, and what the rest of the visits adds
 abbrev pub invariant-loop-set : goal.invariant-loop-set
