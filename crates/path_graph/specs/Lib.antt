@@ -11,4 +11,5 @@ pub mod Ranking
 pub mod Level
 pub mod Within
 pub mod Sums
+pub mod Bounds
 pub mod SetBits

@@ -2,3 +2,5 @@ pub mod Bounds
 pub mod TidyLemmas
 pub mod SolutionLemmas
 pub mod KnownLemmas
+pub mod PlaceLemmas
+pub mod ShutLemmas

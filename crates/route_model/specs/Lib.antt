@@ -6,3 +6,6 @@ pub mod Known
 pub mod Costs
 pub mod Verdicts
 pub mod Tidy
+pub mod Terms
+pub mod Places
+pub mod PlaceParts

@@ -22,3 +22,7 @@ pub const MAX_SIDE: u64 = 1_000_000_000_000;
 pub const MAX_COEF_SUM: u64 = 1_048_576;
 /// The most that absolute cost × high sums to, over the variables: 2^40.
 pub const MAX_COST_RANGE: u128 = 1_099_511_627_776;
+/// How many units of a multiplier, a term or a reduced cost are one unit of cost.
+pub const SCALE: i64 = 65_536;
+/// How far a multiplier may be from 0: 2^48.
+pub const MAX_MULT: u64 = 281_474_976_710_656;

@@ -20,7 +20,7 @@ pub(crate) fn solve(alloc: Global, input: &[u8]) -> Result<Answer, NoMemory>
 {
     let model = match read_model(alloc, input) {
         Ok(model) => model,
-        Err(ReadError::Text(fault)) => return Ok(Answer::Model(fault_line(
+        Err(ReadError::Text(fault)) => return Ok(Answer::RefusedModel(fault_line(
             alloc, b"model", fault,
         )?)),
         Err(ReadError::Memory) => return Err(NoMemory),
@@ -33,7 +33,7 @@ pub(crate) fn solve(alloc: Global, input: &[u8]) -> Result<Answer, NoMemory>
 
 /// `optimal COST` and the path lines of a plan.
 fn plan_text(alloc: Global, cost: i64, plan: &Plan) -> Result<LineWriter, NoMemory>
-    ensures { IfOk result (λ text. text ≡ optimal_text cost plan.now.paths) }
+    ensures { IfOk result (λ text. text ≡ optimal_text cost plan.now) }
 {
     let mut text = LineWriter::new(alloc);
     write_cost(&mut text, b"optimal", cost)?;

@@ -1,0 +1,10 @@
+pub mod Memories
+pub mod Labels
+pub mod Joins
+pub mod Dominance
+pub mod Admitted
+pub mod Tables
+pub mod Leasts
+pub mod Costs
+pub mod Spaces
+pub mod SpaceLaws

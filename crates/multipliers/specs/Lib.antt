@@ -1,0 +1,4 @@
+pub mod Quantities
+pub mod Priced
+pub mod Ranges
+pub mod Promise

@@ -1,0 +1,16 @@
+pub mod Grows
+pub mod TreeOrder
+pub mod Slots
+pub mod Pruning
+pub mod Weights
+pub mod PrefixTrees
+pub mod PrefixLaws
+pub mod Counts
+pub mod Places
+pub mod Proofs
+pub mod Nodes
+pub mod Validity
+pub mod ValidLaws
+pub mod OpenTrees
+pub mod NodeWalls
+pub mod ListWalls
