@@ -24,6 +24,18 @@ pub all_of_each : {A : Type 0} (P : A → Type 0) (before xs : List A) → EachA
 all_of_each P before [] each = All-nil P
 all_of_each P before (x ∷ xs) each = All-cons P x xs each.0 (all_of_each P (before ++ x ∷ []) xs each.1)
 
+-- what each thing keeps, all things keep
+pub each_keeps : {A : Type 0} {P : List A → A → Type 0} (Q : List A → Type 0) → ((before : List A) (x : A) → Q before → P before x → Q (before ++ x ∷ [])) → (before xs : List A) → Q before → EachAfter P before xs → Q (before ++ xs)
+each_keeps Q step before [] q each = subst Q (sym (append-nil before)) q
+each_keeps Q step before (x ∷ xs) q each =
+    subst Q (append_assoc before (x ∷ []) xs) (each_keeps Q step (before ++ x ∷ []) xs (step before x q each.0) each.1)
+
+-- a condition of each thing of a whole, wherever the whole is cut
+pub each_of_cuts : {A : Type 0} {P : List A → A → Type 0} (whole : List A) → ((front : List A) (x : A) (back : List A) → front ++ x ∷ back ≡ whole → P front x) → (before xs : List A) → before ++ xs ≡ whole → EachAfter P before xs
+each_of_cuts whole each before [] is = tt
+each_of_cuts whole each before (x ∷ xs) is =
+    (each before x xs is, each_of_cuts whole each (before ++ x ∷ []) xs (append_assoc before (x ∷ []) xs ∙ is))
+
 -- what stands behind stops the list
 abbrev pub Stopped : (List ℕ → Bool) → Words → Type 0
 Stopped stops [] = Unit {0}

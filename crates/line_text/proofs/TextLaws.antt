@@ -14,10 +14,13 @@ use Rattle.line_text.proofs.PrintedWordLemmas.{IsPrinted, IsPrintedLine, plain_l
 use Rattle.std.proofs.lemmas.List.Folds.{map_fixed}
 use Rattle.line_text.proofs.Judgement.{Reads, Any, AtEnd}
 
--- The judgement of a grammar: before the end, the words of a line are read as an item exactly where they spell it and it may stand there.
-pub record IsGrammar {D I : Type 0} (g : Grammar D I) (Line : I → Words → Type 0) (form : I → Words) (May : D → I → Type 0) : Type 0 where
+-- The judgement of a grammar: before the end, the words of a line are read as an item exactly where they spell it and it may stand
+-- there. `Fits` holds of what is told so far, from the first line on.
+pub record IsGrammar {D I : Type 0} (g : Grammar D I) (Fits : D → Type 0) (Line : I → Words → Type 0) (form : I → Words) (May : D → I → Type 0) : Type 0 where
   pub some : (i : I) (words : Words) → Line i words → are_some_words words ≡ true
-  pub told : (d : D) (i : I) (words : Words) → g.is_ended d ≡ false → g.item d words ≡ Ok (i, []) → Line i words × May d i
+  pub begins : Fits g.empty
+  pub keeps : (d : D) (n : ℕ) (i : I) → g.is_ended d ≡ false → Fits d → May d i → Fits (g.put d n i)
+  pub told : (d : D) (i : I) (words : Words) → g.is_ended d ≡ false → Fits d → g.item d words ≡ Ok (i, []) → Line i words × May d i
   pub taken : (d : D) (i : I) (words : Words) → g.is_ended d ≡ false → May d i → Line i words → g.item d words ≡ Ok (i, [])
   pub printed : (d : D) (i : I) → g.is_ended d ≡ false → May d i → IsPrintedLine (form i) × Line i (form i)
   pub only : (i : I) (words : Words) → Line i words → map in_printed_form words ≡ words → words ≡ form i
@@ -34,11 +37,13 @@ pub printed_form : {I : Type 0} (form : I → Words) (i : I) → are_some_words 
 printed_form form i some each =
     (record { some = some; each = each }, map_fixed in_printed_form (form i) (λ k d below. (each k d below).stays))
 
-pub by_reads : {D I : Type 0} {g : Grammar D I} {form : I → Words} {May : D → I → Type 0} → ((i : I) → are_some_words (form i) ≡ true) → ((d : D) → g.is_ended d ≡ false → Reads (g.item d) Any form (May d) AtEnd) → IsGrammar g (ByForm form) form May
+pub by_reads : {D I : Type 0} {g : Grammar D I} {form : I → Words} {May : D → I → Type 0} → ((i : I) → are_some_words (form i) ≡ true) → ((d : D) → g.is_ended d ≡ false → Reads (g.item d) Any form (May d) AtEnd) → IsGrammar g (λ _. Unit {0}) (ByForm form) form May
 by_reads {D} {I} {g} {form} {May} some reads =
     record {
       some = λ i words e. some_of (form i) words (some i) e;
-      told = told;
+      begins = tt;
+      keeps = λ d n i going fits may. tt;
+      told = λ d i words going fits h. told d i words going h;
       taken = λ d i words going may e. ap (g.item d) (sym (append-nil words)) ∙ (reads d going).taken i words [] tt may e refl;
       printed = λ d i going may. printed_form form i (some i) ((reads d going).printed i tt may);
       only = λ i words e stays. sym stays ∙ e;
@@ -112,8 +117,8 @@ pub record LineTold {D I : Type 0} (g : Grammar D I) (Line : I → Words → Typ
   pub may : May d item
   pub next : g.put d n item ≡ e
 
-line_told : {D I : Type 0} {g : Grammar D I} {Line : I → Words → Type 0} {form : I → Words} {May : D → I → Type 0} → IsGrammar g Line form May → (d e : D) (n : ℕ) (w : List ℕ) (words : Words) → words_read (reading_of g) d n (w ∷ words) ≡ Ok e → LineTold g Line May d e n (w ∷ words)
-line_told {D} {I} {g} {Line} {form} {May} judged d e n w words h =
+line_told : {D I : Type 0} {g : Grammar D I} {Fits : D → Type 0} {Line : I → Words → Type 0} {form : I → Words} {May : D → I → Type 0} → IsGrammar g Fits Line form May → (d e : D) (n : ℕ) (w : List ℕ) (words : Words) → Fits d → words_read (reading_of g) d n (w ∷ words) ≡ Ok e → LineTold g Line May d e n (w ∷ words)
+line_told {D} {I} {g} {Fits} {Line} {form} {May} judged d e n w words fits h =
     let arm = else_arm (g.is_ended d) (all_taken ((g.item d >>= (λ i. give (g.put d n i))) (w ∷ words))) fault.AfterEnd e h in
     by_item (g.item d (w ∷ words)) refl arm.0 (all_of _ e arm.1)
   where
@@ -123,10 +128,10 @@ line_told {D} {I} {g} {Line} {form} {May} judged d e n w words h =
         let same : (g.put d n i, left) ≡ (e, []) = cc in
         let none : left ≡ [] = ap (λ (p : D × Words). p.1) same in
         let next : g.put d n i ≡ e = ap (λ (p : D × Words). p.0) same in
-        let told = judged.told d i (w ∷ words) going (is ∙ ap (λ (ws : Words). Ok (i, ws)) none) in
+        let told = judged.told d i (w ∷ words) going fits (is ∙ ap (λ (ws : Words). Ok (i, ws)) none) in
         record { going = going; item = i; spells = told.0; may = told.1; next = next }
 
-line_taken : {D I : Type 0} {g : Grammar D I} {Line : I → Words → Type 0} {form : I → Words} {May : D → I → Type 0} → IsGrammar g Line form May → (d : D) (n : ℕ) (i : I) (w : List ℕ) (words : Words) → g.is_ended d ≡ false → May d i → Line i (w ∷ words) → words_read (reading_of g) d n (w ∷ words) ≡ Ok (g.put d n i)
+line_taken : {D I : Type 0} {g : Grammar D I} {Fits : D → Type 0} {Line : I → Words → Type 0} {form : I → Words} {May : D → I → Type 0} → IsGrammar g Fits Line form May → (d : D) (n : ℕ) (i : I) (w : List ℕ) (words : Words) → g.is_ended d ≡ false → May d i → Line i (w ∷ words) → words_read (reading_of g) d n (w ∷ words) ≡ Ok (g.put d n i)
 line_taken {g = g} judged d n i w words going may e =
     then_is (g.is_ended d) (Err fault.AfterEnd) (all_taken ((g.item d >>= (λ i. give (g.put d n i))) (w ∷ words))) going
     ∙ ap (λ r. all_taken (and_then r (λ i. give (g.put d n i)))) (judged.taken d i (w ∷ words) going may e)
@@ -142,17 +147,19 @@ pub record LinesTold {D I : Type 0} (g : Grammar D I) (Line : I → Words → Ty
   pub words : Pairwise Line (wordy lines) items
   pub runs : Runs g May d items e
 
-by_words : {D I : Type 0} {g : Grammar D I} {Line : I → Words → Type 0} {form : I → Words} {May : D → I → Type 0} → IsGrammar g Line form May → (d next e : D) (n : ℕ) (line : List ℕ) (lines : List (List ℕ)) (words : Words) → IsGood line → words_of line ≡ words → words_read (reading_of g) d n words ≡ Ok next → LinesTold g Line May next e lines → LinesTold g Line May d e (line ∷ lines)
-by_words {g = g} {Line = Line} {May = May} judged d next e n line lines [] good is h rest =
+by_words : {D I : Type 0} {g : Grammar D I} {Fits : D → Type 0} {Line : I → Words → Type 0} {form : I → Words} {May : D → I → Type 0} → IsGrammar g Fits Line form May → (d next e : D) (n : ℕ) (line : List ℕ) (lines : List (List ℕ)) (words : Words) → IsGood line → words_of line ≡ words → Fits d → words_read (reading_of g) d n words ≡ Ok next → (Fits next → LinesTold g Line May next e lines) → LinesTold g Line May d e (line ∷ lines)
+by_words {g = g} {Fits = Fits} {Line = Line} {May = May} judged d next e n line lines [] good is fits h later =
     let same : d ≡ next = cc in
+    let rest = later (subst Fits same fits) in
     record {
       accepted = All-cons IsGood line lines good rest.accepted;
       items = rest.items;
       words = subst (λ (ws : Words). Pairwise Line (filter are_some_words (ws ∷ map words_of lines)) rest.items) (sym is) rest.words;
       runs = subst (λ f. Runs g May f rest.items e) (sym same) rest.runs;
     }
-by_words {g = g} {Line = Line} {May = May} judged d next e n line lines (w ∷ words) good is h rest =
-    let told = line_told judged d next n w words h in
+by_words {g = g} {Fits = Fits} {Line = Line} {May = May} judged d next e n line lines (w ∷ words) good is fits h later =
+    let told = line_told judged d next n w words fits h in
+    let rest = later (subst Fits told.next (judged.keeps d n told.item told.going fits told.may)) in
     record {
       accepted = All-cons IsGood line lines good rest.accepted;
       items = told.item ∷ rest.items;
@@ -160,12 +167,12 @@ by_words {g = g} {Line = Line} {May = May} judged d next e n line lines (w ∷ w
       runs = (told.going, told.may, (n, subst (λ f. Runs g May f rest.items e) (sym told.next) rest.runs));
     }
 
-pub lines_told : {D I : Type 0} {g : Grammar D I} {Line : I → Words → Type 0} {form : I → Words} {May : D → I → Type 0} → IsGrammar g Line form May → (d e : D) (n : ℕ) (lines : List (List ℕ)) → lines_read (reading_of g) d n lines ≡ Ok e → LinesTold g Line May d e lines
-lines_told judged d e n [] h = let same : d ≡ e = cc in record { accepted = All-nil IsGood; items = []; words = tt; runs = same }
-lines_told {g = g} judged d e n (line ∷ lines) h =
+pub lines_told : {D I : Type 0} {g : Grammar D I} {Fits : D → Type 0} {Line : I → Words → Type 0} {form : I → Words} {May : D → I → Type 0} → IsGrammar g Fits Line form May → (d e : D) (n : ℕ) (lines : List (List ℕ)) → Fits d → lines_read (reading_of g) d n lines ≡ Ok e → LinesTold g Line May d e lines
+lines_told judged d e n [] fits h = let same : d ≡ e = cc in record { accepted = All-nil IsGood; items = []; words = tt; runs = same }
+lines_told {g = g} judged d e n (line ∷ lines) fits h =
     let next = next_of n (line_read (reading_of g) d n line) (λ f. lines_read (reading_of g) f (n + 1) lines) e h in
     let good = else_arm (has_bad_byte line) (words_read (reading_of g) d n (words_of line)) fault.Byte next.0 next.1 in
-    by_words judged d next.0 e n line lines (words_of line) good.0 refl good.1 (lines_told judged next.0 e (n + 1) lines next.2)
+    by_words judged d next.0 e n line lines (words_of line) good.0 refl fits good.1 (λ kept. lines_told judged next.0 e (n + 1) lines kept next.2)
 
 -- Lines that are spelled.
 abbrev Led : {D I : Type 0} → Grammar D I → D → ℕ → List (List ℕ) → (D → Type 0) → Type 0
@@ -176,7 +183,7 @@ good_line g d n line lines words next good is read =
     ap (λ r. go_on (at_line n r) (λ f. lines_read (reading_of g) f (n + 1) lines))
     (then_is (has_bad_byte line) (Err fault.Byte) (words_read (reading_of g) d n (words_of line)) good ∙ (ap (words_read (reading_of g) d n) is ∙ read))
 
-spelled_by_words : {D I : Type 0} {g : Grammar D I} {Line : I → Words → Type 0} {form : I → Words} {May : D → I → Type 0} → IsGrammar g Line form May → (d : D) (n : ℕ) (line : List ℕ) (lines : List (List ℕ)) (words : Words) (items : List I) (Good : D → Type 0) → IsGood line → words_of line ≡ words → Pairwise Line (wordy (line ∷ lines)) items → Leads g May d items Good → ((next : D) (more : List I) → Pairwise Line (wordy lines) more → Leads g May next more Good → Led g next (n + 1) lines Good) → Led g d n (line ∷ lines) Good
+spelled_by_words : {D I : Type 0} {g : Grammar D I} {Fits : D → Type 0} {Line : I → Words → Type 0} {form : I → Words} {May : D → I → Type 0} → IsGrammar g Fits Line form May → (d : D) (n : ℕ) (line : List ℕ) (lines : List (List ℕ)) (words : Words) (items : List I) (Good : D → Type 0) → IsGood line → words_of line ≡ words → Pairwise Line (wordy (line ∷ lines)) items → Leads g May d items Good → ((next : D) (more : List I) → Pairwise Line (wordy lines) more → Leads g May next more Good → Led g next (n + 1) lines Good) → Led g d n (line ∷ lines) Good
 spelled_by_words {g = g} {Line = Line} judged d n line lines [] items Good good is spelled leads later =
     let rest = later d items (subst (λ (ws : Words). Pairwise Line (filter are_some_words (ws ∷ map words_of lines)) items) is spelled) leads in
     (rest.0, good_line g d n line lines [] d good is refl ∙ rest.1, rest.2)
@@ -187,7 +194,7 @@ spelled_by_words {g = g} {Line = Line} judged d n line lines (w ∷ words) (i �
     let rest = later (g.put d n i) items pairs.1 (leads.2 n) in
     (rest.0, good_line g d n line lines (w ∷ words) (g.put d n i) good is (line_taken judged d n i w words leads.0 leads.1 pairs.0) ∙ rest.1, rest.2)
 
-pub lines_taken : {D I : Type 0} {g : Grammar D I} {Line : I → Words → Type 0} {form : I → Words} {May : D → I → Type 0} → IsGrammar g Line form May → (n : ℕ) (lines : List (List ℕ)) (d : D) (items : List I) (Good : D → Type 0) → AreAccepted lines → Pairwise Line (wordy lines) items → Leads g May d items Good → Led g d n lines Good
+pub lines_taken : {D I : Type 0} {g : Grammar D I} {Fits : D → Type 0} {Line : I → Words → Type 0} {form : I → Words} {May : D → I → Type 0} → IsGrammar g Fits Line form May → (n : ℕ) (lines : List (List ℕ)) (d : D) (items : List I) (Good : D → Type 0) → AreAccepted lines → Pairwise Line (wordy lines) items → Leads g May d items Good → Led g d n lines Good
 lines_taken judged n [] d [] Good accepted printed leads = (d, refl, leads)
 lines_taken judged n [] d (i ∷ items) Good accepted printed leads = absurd printed
 lines_taken judged n (line ∷ lines) d items Good accepted printed leads =
@@ -195,8 +202,8 @@ lines_taken judged n (line ∷ lines) d items Good accepted printed leads =
     (λ next more e l. lines_taken judged (n + 1) lines next more Good (All-tail IsGood line lines accepted) e l)
 
 -- A text tells a value: which items say it.
-pub record IsText {D I V : Type 0} (g : Grammar D I) (Line : I → Words → Type 0) (form : I → Words) (May : D → I → Type 0) (value : D → V) (Says : V → List I → Type 0) : Type 0 where
-  pub grammar : IsGrammar g Line form May
+pub record IsText {D I V : Type 0} (g : Grammar D I) (Fits : D → Type 0) (Line : I → Words → Type 0) (form : I → Words) (May : D → I → Type 0) (value : D → V) (Says : V → List I → Type 0) : Type 0 where
+  pub grammar : IsGrammar g Fits Line form May
   pub runs : (items : List I) (e : D) → Runs g May g.empty items e → g.is_ended e ≡ true → Says (value e) items
   pub leads : (v : V) (items : List I) → Says v items → Leads g May g.empty items (λ e. (g.is_ended e ≡ true) × (value e ≡ v))
 
@@ -216,10 +223,10 @@ after_lines {D} g text e (Ok d) h = by_end (g.is_ended d) refl h
     by_end true is h = let same : d ≡ e = cc in (h, ap g.is_ended (sym same) ∙ is)
     by_end false is h = cc
 
-pub reads_spelled : {D I V : Type 0} {g : Grammar D I} {Line : I → Words → Type 0} {form : I → Words} {May : D → I → Type 0} {value : D → V} {Says : V → List I → Type 0} → IsText g Line form May value Says → (text : List ℕ) (e : D) → text_read (reading_of g) text ≡ Ok e → SpellsBy Line Says text (value e)
+pub reads_spelled : {D I V : Type 0} {g : Grammar D I} {Fits : D → Type 0} {Line : I → Words → Type 0} {form : I → Words} {May : D → I → Type 0} {value : D → V} {Says : V → List I → Type 0} → IsText g Fits Line form May value Says → (text : List ℕ) (e : D) → text_read (reading_of g) text ≡ Ok e → SpellsBy Line Says text (value e)
 reads_spelled {g = g} is text e h =
     let read = after_lines g text e (lines_read (reading_of g) g.empty 1 (lines_of text)) h in
-    let told = lines_told is.grammar g.empty e 1 (lines_of text) read.0 in
+    let told = lines_told is.grammar g.empty e 1 (lines_of text) is.grammar.begins read.0 in
     record { accepted = told.accepted; items = told.items; words = told.words; says = is.runs told.items e told.runs read.1 }
 
 -- what is spelled is read
@@ -228,7 +235,7 @@ pub record IsReadAs {D I V : Type 0} (g : Grammar D I) (value : D → V) (text :
   pub read : text_read (reading_of g) text ≡ Ok told
   pub same : value told ≡ v
 
-pub spelled_reads : {D I V : Type 0} {g : Grammar D I} {Line : I → Words → Type 0} {form : I → Words} {May : D → I → Type 0} {value : D → V} {Says : V → List I → Type 0} → IsText g Line form May value Says → (text : List ℕ) (v : V) → SpellsBy Line Says text v → IsReadAs g value text v
+pub spelled_reads : {D I V : Type 0} {g : Grammar D I} {Fits : D → Type 0} {Line : I → Words → Type 0} {form : I → Words} {May : D → I → Type 0} {value : D → V} {Says : V → List I → Type 0} → IsText g Fits Line form May value Says → (text : List ℕ) (v : V) → SpellsBy Line Says text v → IsReadAs g value text v
 spelled_reads {g = g} {value = value} is text v spells =
     let led = lines_taken is.grammar 1 (lines_of text) g.empty spells.items (λ e. (g.is_ended e ≡ true) × (value e ≡ v)) spells.accepted spells.words (is.leads v spells.items spells.says) in
     record {
@@ -241,21 +248,21 @@ spelled_reads {g = g} {value = value} is text v spells =
     ended e is = rw is refl
 
 -- a text spells at most one value, and none where it has a fault
-pub spells_one : {D I V : Type 0} {g : Grammar D I} {Line : I → Words → Type 0} {form : I → Words} {May : D → I → Type 0} {value : D → V} {Says : V → List I → Type 0} → IsText g Line form May value Says → (text : List ℕ) (e : D) (v : V) → text_read (reading_of g) text ≡ Ok e → SpellsBy Line Says text v → v ≡ value e
+pub spells_one : {D I V : Type 0} {g : Grammar D I} {Fits : D → Type 0} {Line : I → Words → Type 0} {form : I → Words} {May : D → I → Type 0} {value : D → V} {Says : V → List I → Type 0} → IsText g Fits Line form May value Says → (text : List ℕ) (e : D) (v : V) → text_read (reading_of g) text ≡ Ok e → SpellsBy Line Says text v → v ≡ value e
 spells_one {D = D} {value = value} is text e v h spells =
     let reading = spelled_reads is text v spells in
     let both = sym reading.read ∙ h in
     let same : reading.told ≡ e = cc in
     sym reading.same ∙ ap value same
 
-pub fault_spells_nothing : {D I V : Type 0} {g : Grammar D I} {Line : I → Words → Type 0} {form : I → Words} {May : D → I → Type 0} {value : D → V} {Says : V → List I → Type 0} → IsText g Line form May value Says → (text : List ℕ) (first : TextFault) (v : V) → text_read (reading_of g) text ≡ Err first → SpellsBy Line Says text v → ⊥
+pub fault_spells_nothing : {D I V : Type 0} {g : Grammar D I} {Fits : D → Type 0} {Line : I → Words → Type 0} {form : I → Words} {May : D → I → Type 0} {value : D → V} {Says : V → List I → Type 0} → IsText g Fits Line form May value Says → (text : List ℕ) (first : TextFault) (v : V) → text_read (reading_of g) text ≡ Err first → SpellsBy Line Says text v → ⊥
 fault_spells_nothing is text first v h spells =
     let reading = spelled_reads is text v spells in
     let both = sym reading.read ∙ h in
     cc
 
 -- items of a value are printed as words
-items_printed : {D I : Type 0} {g : Grammar D I} {Line : I → Words → Type 0} {form : I → Words} {May : D → I → Type 0} → IsGrammar g Line form May → (d : D) (items : List I) (Good : D → Type 0) → Leads g May d items Good → All IsPrintedLine (map form items) × Pairwise Line (map form items) items
+items_printed : {D I : Type 0} {g : Grammar D I} {Fits : D → Type 0} {Line : I → Words → Type 0} {form : I → Words} {May : D → I → Type 0} → IsGrammar g Fits Line form May → (d : D) (items : List I) (Good : D → Type 0) → Leads g May d items Good → All IsPrintedLine (map form items) × Pairwise Line (map form items) items
 items_printed judged d [] Good leads = (All-nil IsPrintedLine, tt)
 items_printed {g = g} {form = form} judged d (i ∷ items) Good leads =
     let here = judged.printed d i leads.0 leads.1 in
@@ -266,7 +273,7 @@ all_plain : (lines : List Words) → All IsPrintedLine lines → All IsPlainLine
 all_plain lines all = λ k d below. plain_line _ (all k d below)
 
 -- the printed text of items that say a value spells it
-pub printed_spells : {D I V : Type 0} {g : Grammar D I} {Line : I → Words → Type 0} {form : I → Words} {May : D → I → Type 0} {value : D → V} {Says : V → List I → Type 0} → IsText g Line form May value Says → (v : V) (items : List I) → Says v items → SpellsBy Line Says (text_of_lines (map form items)) v
+pub printed_spells : {D I V : Type 0} {g : Grammar D I} {Fits : D → Type 0} {Line : I → Words → Type 0} {form : I → Words} {May : D → I → Type 0} {value : D → V} {Says : V → List I → Type 0} → IsText g Fits Line form May value Says → (v : V) (items : List I) → Says v items → SpellsBy Line Says (text_of_lines (map form items)) v
 printed_spells {g = g} {Line = Line} {form = form} is v items says =
     let all = items_printed is.grammar g.empty items _ (is.leads v items says) in
     let plain = all_plain (map form items) all.0 in
@@ -286,12 +293,12 @@ lines_printed lines all =
       numbers = ap (λ (ls : List Words). map (map in_printed_form) ls) told ∙ (lines_stay lines all ∙ sym told);
     }
 
-pub printed_is_printed : {D I V : Type 0} {g : Grammar D I} {Line : I → Words → Type 0} {form : I → Words} {May : D → I → Type 0} {value : D → V} {Says : V → List I → Type 0} → IsText g Line form May value Says → (v : V) (items : List I) → Says v items → IsPrintedText (text_of_lines (map form items))
+pub printed_is_printed : {D I V : Type 0} {g : Grammar D I} {Fits : D → Type 0} {Line : I → Words → Type 0} {form : I → Words} {May : D → I → Type 0} {value : D → V} {Says : V → List I → Type 0} → IsText g Fits Line form May value Says → (v : V) (items : List I) → Says v items → IsPrintedText (text_of_lines (map form items))
 printed_is_printed {g = g} {form = form} is v items says =
     lines_printed (map form items) (items_printed is.grammar g.empty items _ (is.leads v items says)).0
 
 -- A text in printed form is that of its items: so where a value has one list of items, its printed text is the only one that spells it.
-only_lines : {D I : Type 0} {g : Grammar D I} {Line : I → Words → Type 0} {form : I → Words} {May : D → I → Type 0} → IsGrammar g Line form May → (lines : List Words) (items : List I) → Pairwise Line lines items → map (map in_printed_form) lines ≡ lines → lines ≡ map form items
+only_lines : {D I : Type 0} {g : Grammar D I} {Fits : D → Type 0} {Line : I → Words → Type 0} {form : I → Words} {May : D → I → Type 0} → IsGrammar g Fits Line form May → (lines : List Words) (items : List I) → Pairwise Line lines items → map (map in_printed_form) lines ≡ lines → lines ≡ map form items
 only_lines judged [] [] pairs stays = refl
 only_lines judged [] (i ∷ items) pairs stays = absurd pairs
 only_lines judged (words ∷ lines) [] pairs stays = absurd pairs
@@ -302,12 +309,12 @@ only_lines judged (words ∷ lines) (i ∷ items) pairs stays =
     let others = only_lines judged lines items pairs.1 rest in
     cc
 
-pub printed_only : {D I V : Type 0} {g : Grammar D I} {Line : I → Words → Type 0} {form : I → Words} {May : D → I → Type 0} {value : D → V} {Says : V → List I → Type 0} → IsText g Line form May value Says → (text : List ℕ) (v : V) → IsPrintedText text → (spells : SpellsBy Line Says text v) → text ≡ text_of_lines (map form spells.items)
+pub printed_only : {D I V : Type 0} {g : Grammar D I} {Fits : D → Type 0} {Line : I → Words → Type 0} {form : I → Words} {May : D → I → Type 0} {value : D → V} {Says : V → List I → Type 0} → IsText g Fits Line form May value Says → (text : List ℕ) (v : V) → IsPrintedText text → (spells : SpellsBy Line Says text v) → text ≡ text_of_lines (map form spells.items)
 printed_only is text v printed spells =
     printed.spaced ∙ ap text_of_lines (only_lines is.grammar (lines_with_words text) spells.items spells.words printed.numbers)
 
 -- a text without a fault spells what is read of it
-pub faultless_spells : {D I V : Type 0} {g : Grammar D I} {Line : I → Words → Type 0} {form : I → Words} {May : D → I → Type 0} {value : D → V} {Says : V → List I → Type 0} → IsText g Line form May value Says → (text : List ℕ) → ((first : TextFault) → text_read (reading_of g) text ≡ Err first → ⊥) → (v : V) × SpellsBy Line Says text v
+pub faultless_spells : {D I V : Type 0} {g : Grammar D I} {Fits : D → Type 0} {Line : I → Words → Type 0} {form : I → Words} {May : D → I → Type 0} {value : D → V} {Says : V → List I → Type 0} → IsText g Fits Line form May value Says → (text : List ℕ) → ((first : TextFault) → text_read (reading_of g) text ≡ Err first → ⊥) → (v : V) × SpellsBy Line Says text v
 faultless_spells {D} {V = V} {g = g} {Line = Line} {value = value} {Says = Says} is text none = by_result (text_read (reading_of g) text) refl
   where
     by_result : (r : Result D TextFault) → text_read (reading_of g) text ≡ r → (v : V) × SpellsBy Line Says text v

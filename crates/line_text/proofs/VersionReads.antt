@@ -53,15 +53,18 @@ abbrev pub StandsFirst : {D I : Type 0} → (D → Bool) → (I → Bool) → (I
 StandsFirst is_first opens First May d i = Choose (opens i) ((is_first d ≡ true) × First i) ((is_first d ≡ false) × May d i)
 
 -- A grammar whose first line is told by exactly its words.
-pub record Opened {D I : Type 0} (g : Grammar D I) (is_first : D → Bool) (opens : I → Bool) (form : I → Words) (First : I → Type 0) (May : D → I → Type 0) : Type 0 where
+pub record Opened {D I : Type 0} (g : Grammar D I) (Fits : D → Type 0) (is_first : D → Bool) (opens : I → Bool) (form : I → Words) (First : I → Type 0) (May : D → I → Type 0) : Type 0 where
   pub first : Wants I
   pub others : D → Wants I
   pub item : (d : D) (words : Words) → g.item d words ≡ (if is_first d then first words else others d words)
   pub some : (i : I) → are_some_words (form i) ≡ true
   pub opening : (i : I) → First i → opens i ≡ true
   pub within : (d : D) (i : I) → May d i → opens i ≡ false
+  pub fits : (d : D) (i : I) → May d i → Fits d
   pub first_reads : ReadsExactly first form First
-  pub others_read : (d : D) → is_first d ≡ false → Reads (others d) Any form (May d) AtEnd
+  pub begins : Fits g.empty
+  pub keeps : (d : D) (n : ℕ) (i : I) → g.is_ended d ≡ false → Fits d → StandsFirst is_first opens First May d i → Fits (g.put d n i)
+  pub others_read : (d : D) → is_first d ≡ false → Fits d → Reads (others d) Any form (May d) AtEnd
 
 chosen : {A : Type 0} (B : Type 0) (b : Bool) → b ≡ true → A → Choose b A B
 chosen B true is x = x
@@ -71,11 +74,13 @@ other : (A : Type 0) {B : Type 0} (b : Bool) → b ≡ false → B → Choose b 
 other A true is x = cc
 other A false is x = x
 
-pub by_opening : {D I : Type 0} {g : Grammar D I} {is_first : D → Bool} {opens : I → Bool} {form : I → Words} {First : I → Type 0} {May : D → I → Type 0} → Opened g is_first opens form First May → IsGrammar g (Opening opens form) form (StandsFirst is_first opens First May)
-by_opening {D} {I} {g} {is_first} {opens} {form} {First} {May} p =
+pub by_opening : {D I : Type 0} {g : Grammar D I} {Fits : D → Type 0} {is_first : D → Bool} {opens : I → Bool} {form : I → Words} {First : I → Type 0} {May : D → I → Type 0} → Opened g Fits is_first opens form First May → IsGrammar g Fits (Opening opens form) form (StandsFirst is_first opens First May)
+by_opening {D} {I} {g} {Fits} {is_first} {opens} {form} {First} {May} p =
     record {
       some = λ i words line. some (opens i) i words line;
-      told = λ d i words going h. told (is_first d) d i words refl (sym (p.item d words) ∙ h);
+      begins = p.begins;
+      keeps = p.keeps;
+      told = λ d i words going fits h. told (is_first d) d i words refl fits (sym (p.item d words) ∙ h);
       taken = λ d i words going may line. taken (opens i) d i words may line;
       printed = λ d i going may. printed (opens i) d i may;
       only = λ i words line stays. only (opens i) i words line stays;
@@ -95,18 +100,18 @@ by_opening {D} {I} {g} {is_first} {opens} {form} {First} {May} p =
         let b = p.opening i is.1 in
         (chosen (map in_printed_form words ≡ form i) (opens i) b is.0, chosen ((is_first d ≡ false) × May d i) (opens i) b (on, is.1))
 
-    told_within : (d : D) (i : I) (words : Words) → is_first d ≡ false → p.others d words ≡ Ok (i, []) → Opening opens form i words × StandsFirst is_first opens First May d i
-    told_within d i words off h =
-        let spent = (p.others_read d off).told words (i, []) h in
+    told_within : (d : D) (i : I) (words : Words) → is_first d ≡ false → Fits d → p.others d words ≡ Ok (i, []) → Opening opens form i words × StandsFirst is_first opens First May d i
+    told_within d i words off fits h =
+        let spent = (p.others_read d off fits).told words (i, []) h in
         let whole : words ≡ spent.front = spent.is ∙ append-nil spent.front in
         let b = p.within d i spent.fits in (
           other (words ≡ form i) (opens i) b (ap (λ (ws : Words). map in_printed_form ws) whole ∙ spent.spells),
           other ((is_first d ≡ true) × First i) (opens i) b (off, spent.fits),
         )
 
-    told : (b : Bool) (d : D) (i : I) (words : Words) → is_first d ≡ b → (if b then p.first words else p.others d words) ≡ Ok (i, []) → Opening opens form i words × StandsFirst is_first opens First May d i
-    told true d i words on h = told_first d i words on h
-    told false d i words off h = told_within d i words off h
+    told : (b : Bool) (d : D) (i : I) (words : Words) → is_first d ≡ b → Fits d → (if b then p.first words else p.others d words) ≡ Ok (i, []) → Opening opens form i words × StandsFirst is_first opens First May d i
+    told true d i words on fits h = told_first d i words on h
+    told false d i words off fits h = told_within d i words off fits h
 
     arm : (b : Bool) (d : D) (words : Words) → is_first d ≡ b → g.item d words ≡ (if b then p.first words else p.others d words)
     arm b d words is = p.item d words ∙ ap (λ c. if c then p.first words else p.others d words) is
@@ -115,8 +120,8 @@ by_opening {D} {I} {g} {is_first} {opens} {form} {First} {May} p =
     taken true d i words may line = arm true d words may.0 ∙ (ap p.first line ∙ p.first_reads.taken i may.1)
     taken false d i words may line =
         arm false d words may.0
-        ∙ (ap (p.others d) (sym (append-nil words)) ∙ (p.others_read d may.0).taken i words [] tt may.1 line refl)
+        ∙ (ap (p.others d) (sym (append-nil words)) ∙ (p.others_read d may.0 (p.fits d i may.1)).taken i words [] tt may.1 line refl)
 
     printed : (b : Bool) (d : D) (i : I) → Choose b ((is_first d ≡ true) × First i) ((is_first d ≡ false) × May d i) → IsPrintedLine (form i) × Choose b (form i ≡ form i) (map in_printed_form (form i) ≡ form i)
     printed true d i may = (p.first_reads.printed i may.1, refl)
-    printed false d i may = printed_form form i (p.some i) ((p.others_read d may.0).printed i tt may.1)
+    printed false d i may = printed_form form i (p.some i) ((p.others_read d may.0 (p.fits d i may.1)).printed i tt may.1)

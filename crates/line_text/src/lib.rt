@@ -15,6 +15,6 @@ pub use item_reader::{ItemReader, items};
 pub use line_reader::{LineReader, read_text};
 pub use line_writer::LineWriter;
 pub use word_reader::{
-    fault_if, has_word, is_version, known_below, known_word, limited_wide, limited_word,
-    natural_in, number_in, wide_in, word,
+    fault_if, has_word, known_below, known_word, limited_wide, limited_word, natural_in, number_in,
+    version_line, wide_in, word,
 };

@@ -1,6 +1,6 @@
 ghost use Rattle.std.specs.Prelude.{◌≡◌, ◌<◌, ◌≤◌, ◌≤ℤ◌, ◌^◌, pos, neg_ℤ, true, false, OnOk, IfOk, IfErr};
 ghost use Rattle.vrp_lex.specs.Text.{words_of};
-ghost use Rattle.line_text.specs.Words.{Words, are_some_words, word, limited_word, known_word, number_in, natural_in, known_below, is_version};
+ghost use Rattle.line_text.specs.Words.{Words, are_some_words, word, limited_word, known_word, number_in, natural_in, known_below, version_wanted};
 ghost use Rattle.line_text.specs.Gives.{Gives, IsShorter, IsWithinEnds};
 
 use crate::fault::{Kind, LineFault};
@@ -125,18 +125,20 @@ pub fn known_below(words: &[u8], count: u32) -> Result<(u32, &[u8]), LineFault>
     Ok((n, words))
 }
 
-/// Whether the words of a line are exactly a name and a version, each in its one spelling.
-pub fn is_version(words: &[u8], name: &[u8], version: &[u8]) -> bool
-    ensures { result ≡ is_version name.now version.now (words_of words.now) }
+/// The words of a version line, which are exactly a name and a version, each in its one spelling; the bytes behind them,
+/// which have no word.
+pub fn version_line<'a>(words: &'a [u8], name: &[u8], version: &[u8]) -> Result<&'a [u8], LineFault>
+    ensures { Gives (λ rest. (tt, words_of rest.now)) result
+        (version_wanted name.now version.now (words_of words.now)) }
 {
     let Some((first, words)) = split_word(words) else {
-        return false;
+        return Err(LineFault::Fault(Kind::Version));
     };
     let Some((second, words)) = split_word(words) else {
-        return false;
+        return Err(LineFault::Fault(Kind::Version));
     };
-    if first != name || second != version {
-        return false;
+    if first != name || second != version || has_word(words) {
+        return Err(LineFault::Fault(Kind::Version));
     }
-    !has_word(words)
+    Ok(words)
 }

@@ -21,6 +21,7 @@ fn lists(rt: HostRuntime) -> Result<(), Fail> {
 
 #[test]
 fn plans_and_texts(rt: HostRuntime) -> Result<(), Fail> {
+    printed_text_laws();
     let plan = lone_walk(rt.alloc())?;
     let copy = plan.copy(rt.alloc())?;
     let mut text = LineWriter::new(rt.alloc());

@@ -43,10 +43,10 @@ vars_go d vars stage fit =
     var_goes (record d { vars = before }) v stage room (at_seam VarFits before v after (rw (← is) at fit.each))) [] vars refl
 
 -- rows
-row_goes : (d : Draft) (row : Row) → may_stand line.Row d.stage ≡ true → length d.rows < 5000 → RowFits (length d.vars) row → ((front : List RowTerm) (t : RowTerm) (back : List RowTerm) → front ++ t ∷ back ≡ row.terms → TermRoom d.vars d.rows front t) → Goes d (row_words row ∷ []) (record d { stage = Rows; rows = d.rows ++ row ∷ [] })
-row_goes d row stands room fit terms =
+row_goes : (d : Draft) (row : Row) → may_stand line.Row d.stage ≡ true → length d.rows < 5000 → length d.vars ≤ 30000 → RowFits (length d.vars) row → ((front : List RowTerm) (t : RowTerm) (back : List RowTerm) → front ++ t ∷ back ≡ row.terms → TermRoom d.vars d.rows front t) → Goes d (row_words row ∷ []) (record d { stage = Rows; rows = d.rows ++ row ∷ [] })
+row_goes d row stands room few_vars fit terms =
     line_goes line.Row (codes "row") (side_word row.low ∷ side_word row.high ∷ flat_map term_words row.terms) refl refl stands (below_test _ _ room) (λ n.
-    and_none _ (row_takes d.vars d.rows row fit terms) (given _ []))
+    and_none _ (row_takes d.vars d.rows row few_vars fit terms) (given _ []))
 
 abbrev pub rows_stage : Stage → List Row → Stage
 rows_stage stage [] = stage
@@ -70,7 +70,7 @@ rows_go d rows stage few_vars fit =
     let room : length before < 5000 = omega (arith, few, place_below before row after rows is) in
     let row_fit = at_seam (RowFits (length d.vars)) before row after (rw (← is) at fit.each) in
     let all = rw (← is) at fit in
-    let line = row_goes (with_rows d before) row (row_stands d.stage before stage) room row_fit (row_room d.vars before row after few_vars all row_fit) in
+    let line = row_goes (with_rows d before) row (row_stands d.stage before stage) room few_vars row_fit (row_room d.vars before row after few_vars all row_fit) in
     subst (λ (s : Stage). Goes (with_rows d before) (row_words row ∷ []) (record d { stage = s; rows = before ++ row ∷ [] })) (sym (rows_stage-push d.stage before row)) line) [] rows refl
 
 -- the line of the sets, or none

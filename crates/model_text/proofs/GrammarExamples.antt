@@ -13,7 +13,8 @@ use Rattle.model_text.specs.declared.draft.Stage.TheVariants.{Variables}
 use Rattle.model_text.specs.declared.draft.Draft.{Draft}
 use Rattle.model_text.specs.Draft.{empty_draft, parts_of}
 use Rattle.model_text.specs.LineKinds.{version_words}
-use Rattle.model_text.specs.FirstFault.{line_read, text_read}
+use Rattle.model_text.specs.FirstFault.{text_read}
+use Rattle.model_text.proofs.StageLines.{line_read}
 use Rattle.model_text.specs.FreeCycles.{HasFreeCycle}
 use Rattle.model_text.specs.ModelLines.{sets_words, model_lines}
 use Rattle.line_text.specs.Spelling.{lines_with_words, in_printed_form}

@@ -1,26 +1,17 @@
 -- What the words of graphs, vertices and arcs tell keeps the limits of a model.
-use Rattle.std.proofs.Common.{◌≡◌, ◌≢◌, ℕ, ◌+◌, ◌≤◌, ◌<◌, pos, Bool, true, false, List, length, refl, arith, Option, None, Some}
-use Rattle.std.specs.Prelude.{◌==◌, ◌||◌, ◌&&◌, nat_lt, IfSome, is_some, codes}
-use Rattle.std.specs.Str.{bytes_eq}
+use Rattle.std.proofs.Common.{◌≡◌, ℕ, ◌+◌, ◌≤◌, ◌<◌, pos, Bool, true, false, List, length, refl, arith, Option, None, Some}
+use Rattle.std.specs.Prelude.{◌==◌, ◌||◌, ◌&&◌, nat_lt, IfSome, is_some}
 use Rattle.std.proofs.lemmas.Bool.Decides.{nat_tests}
 use Rattle.path_graph.specs.declared.parts.Vertex.{Vertex}
-use Rattle.path_graph.specs.declared.parts.GraphArc.{GraphArc}
 use Rattle.path_graph.specs.declared.parts.Ends.{Ends}
 use Rattle.path_graph.specs.Fit.{is_used_at, WindowFits, NeedFits, VertexFits, ArcFits, EndsFit}
-use Rattle.path_graph.specs.Walk.{positions}
 use Rattle.route_model.specs.Fit.{MapFits, IsDeclared}
-use Rattle.line_text.specs.declared.fault.Kind.TheVariants as fault
 use Rattle.model_text.specs.declared.draft.Section.{Section}
-use Rattle.line_text.specs.Words.{word}
-use Rattle.model_text.specs.LineWords.{set_wanted, window_at, need_at, vertex_wanted, arc_wanted, graph_wanted, sets_wanted}
+use Rattle.model_text.specs.LineWords.{vertex_wanted, arc_wanted, graph_wanted, sets_wanted}
 use Rattle.model_text.specs.Totals.{path_total}
-use Rattle.model_text.proofs.FitLemmas.{GivesOnly, given, after, checked, anything, either, natural_in-in, known_below-below, known_word-below, for_each-all, six, window_at-fits, need_at-fits}
-use Rattle.model_text.proofs.RowFitLemmas.{mapped_to_the_end-fits}
-
-set_wanted-declared : (sets : ℕ) → GivesOnly (set_wanted sets) (λ set. IfSome set (λ s. s < sets))
-set_wanted-declared sets =
-    after (anything word) (λ w _. either (bytes_eq w (codes "-")) (given None tt)
-    (after (known_word-below sets w) (λ set below. given (Some set) below)))
+use Rattle.model_text.proofs.LineReads.{sets-reads, graph-reads, vertex-reads, arc-reads}
+use Rattle.model_text.proofs.FitLemmas.{GivesOnly, gives, weaker, six}
+use Rattle.model_text.proofs.RowFitLemmas.{mapped_fit}
 
 -- the place of a vertex that may be in a set is neither the source nor the sink
 pub record IsFree (s : Section) (v : Vertex) : Type 0 where
@@ -42,44 +33,33 @@ below_512 sets (Some s) few h = omega (arith, few, h)
 
 pub vertex_wanted-fits : (sets : ℕ) (s : Section) → sets ≤ 512 → GivesOnly (vertex_wanted sets s) (λ v. VertexFits s.ends v × IsDeclared sets v × IsFree s v)
 vertex_wanted-fits sets s few =
-    after (set_wanted-declared sets) (λ set declared.
-    checked fault.Ends (is_some set && (length s.vertices == s.ends.source || length s.vertices == s.ends.sink)) (λ free.
-    let parts = part_of_and (is_some set) (length s.vertices == s.ends.source) (length s.vertices == s.ends.sink) free in
-    after (for_each-all (λ k. WindowFits (is_used_at s.ends k)) (window_at s.ends) (window_at-fits s.ends) positions) (λ windows all.
-    let each = six (λ k. WindowFits (is_used_at s.ends k)) (record { low = pos 0; high = pos 0 }) windows all in
-    let v : Vertex = record { set = set; windows = windows } in
-    given v (
-      record { set = below_512 sets set few declared; places = each.0; windows = each.1 },
-      declared,
+    weaker (gives (vertex-reads sets s few)) (λ v may.
+    let each = six (λ k. WindowFits (is_used_at s.ends k)) (record { low = pos 0; high = pos 0 }) v.windows may.windows in
+    let parts = part_of_and (is_some v.set) (length s.vertices == s.ends.source) (length s.vertices == s.ends.sink) may.ends in (
+      record { set = below_512 sets v.set few may.set; places = each.0; windows = each.1 },
+      may.set,
       record {
-        source = free_at set (length s.vertices) s.ends.source parts.0;
-        sink = free_at set (length s.vertices) s.ends.sink parts.1;
+        source = free_at v.set (length s.vertices) s.ends.source parts.0;
+        sink = free_at v.set (length s.vertices) s.ends.sink parts.1;
       },
-    ))))
+    ))
 
-pub arc_wanted-fits : (vars : ℕ) (s : Section) → GivesOnly (arc_wanted vars s) (λ a. ArcFits s.ends (length s.vertices) a.0 × MapFits vars a.1)
-arc_wanted-fits vars s =
-    after (known_below-below (length s.vertices)) (λ tail t.
-    checked fault.Ends (tail == s.ends.sink) (λ not_out.
-    after (known_below-below (length s.vertices)) (λ head h.
-    checked fault.Ends (head == s.ends.source) (λ not_in.
-    after (for_each-all (λ k. NeedFits (is_used_at s.ends k) (nat_lt k 2)) (need_at s.ends) (need_at-fits s.ends) positions) (λ needs all.
-    after (mapped_to_the_end-fits vars) (λ mapped m.
-    let each = six (λ k. NeedFits (is_used_at s.ends k) (nat_lt k 2)) (pos 0) needs all in
-    let arc : GraphArc = record { tail = tail; head = head; needs = needs } in
-    let different_head : head ≢ s.ends.source = λ e. grind (arith, nat_tests, not_in, e) in
-    let different_tail : tail ≢ s.ends.sink = λ e. grind (arith, nat_tests, not_out, e) in
-    given (arc, mapped) (
+pub arc_wanted-fits : (vars : ℕ) (s : Section) → vars ≤ 30000 → length s.vertices ≤ 1024 → GivesOnly (arc_wanted vars s) (λ a. ArcFits s.ends (length s.vertices) a.0 × MapFits vars a.1)
+arc_wanted-fits vars s few_vars few =
+    weaker (gives (arc-reads vars s few_vars few)) (λ a may.
+    let each = six (λ k. NeedFits (is_used_at s.ends k) (nat_lt k 2)) (pos 0) a.0.needs may.needs in
+    let into = may.not_in in
+    let out = may.not_out in (
       record {
-        tail = t;
-        head = h;
-        not_in = different_head;
-        not_out = different_tail;
+        tail = may.tail;
+        head = may.head;
+        not_in = λ e. grind (arith, nat_tests, into, e);
+        not_out = λ e. grind (arith, nat_tests, out, e);
         places = each.0;
         needs = each.1;
       },
-      m,
-    )))))))
+      mapped_fit vars a.1 may.mapped,
+    ))
 
 -- a graph line
 pub record GraphLineFits (sections : List Section) (g : ℕ × Ends) : Type 0 where
@@ -90,37 +70,25 @@ pub record GraphLineFits (sections : List Section) (g : ℕ × Ends) : Type 0 wh
 
 pub graph_wanted-fits : (sections : List Section) → GivesOnly (graph_wanted sections) (GraphLineFits sections)
 graph_wanted-fits sections =
-    after (natural_in-in 2 1024) (λ count c.
-    after (known_below-below count) (λ source s.
-    after (known_below-below count) (λ sink t.
-    checked fault.Ends (sink == source) (λ different.
-    after (natural_in-in 0 4096) (λ low l.
-    after (natural_in-in 0 4096) (λ high h.
-    checked fault.Box (nat_lt high low) (λ box.
-    checked fault.TooMany (nat_lt 4096 (path_total sections + high)) (λ few.
-    after (natural_in-in 1 2) (λ mains m.
-    after (natural_in-in 0 4) (λ seconds n.
-    let ends : Ends = record { source = source; sink = sink; low = low; high = high; mains = mains; seconds = seconds } in
-    let apart : source ≢ sink = λ e. grind (arith, nat_tests, different, e) in
-    let order : low ≤ high = grind (arith, nat_tests, box) in
-    let sum : path_total sections + high ≤ 4096 = grind (arith, nat_tests, few) in
-    given (count, ends)
-    (record {
-      some_vertices = c.0;
-      few_vertices = c.1;
+    weaker (gives (graph-reads sections)) (λ g h.
+    let may = h.1 in
+    let different = may.apart in
+    record {
+      some_vertices = h.0.0;
+      few_vertices = h.0.1;
       ends =
           record {
-            source = s;
-            sink = t;
-            different = apart;
-            paths = order;
-            most_paths = h.1;
-            some_main = m.0;
-            mains = m.1;
-            seconds = n.1;
+            source = may.source;
+            sink = may.sink;
+            different = λ e. grind (arith, nat_tests, different, e);
+            paths = may.low;
+            most_paths = may.high;
+            some_main = may.mains.0;
+            mains = may.mains.1;
+            seconds = may.seconds;
           };
-      paths = sum;
-    })))))))))))
+      paths = may.sum;
+    })
 
 pub sets_wanted-few : GivesOnly sets_wanted (λ sets. sets ≤ 512)
-sets_wanted-few = record { each = λ words y e. ((natural_in-in 0 512).each words y e).1 }
+sets_wanted-few = gives sets-reads

@@ -36,3 +36,5 @@ pub mod PlanLaws
 pub mod PathExamples
 pub mod PlanCountLemmas
 pub mod PrintedLawLemmas
+pub mod LineReads
+pub mod StageLines

@@ -1,5 +1,5 @@
 -- Each line keeps the limits and orders of a model.
-use Rattle.std.proofs.Common.{◌≡◌, ℕ, ◌+◌, ◌<◌, true, false, not, List, [], ◌∷◌, ◌++◌, length, refl, arith}
+use Rattle.std.proofs.Common.{◌≡◌, ℕ, ◌+◌, ◌≤◌, ◌<◌, true, false, not, List, [], ◌∷◌, ◌++◌, length, refl, arith}
 use Rattle.std.specs.Prelude.{nat_lt, All}
 use Rattle.std.proofs.lemmas.Bool.Decides.{nat_tests}
 use Rattle.std.proofs.lemmas.List.{length-append}
@@ -16,7 +16,8 @@ use Rattle.model_text.specs.declared.line_kind.LineKind.TheVariants as line
 use Rattle.model_text.specs.Draft.{begun_section, with_vertex, with_arc, in_section, sections_of}
 use Rattle.model_text.specs.LineKinds.{may_stand, passes_limit, further_wanted}
 use Rattle.model_text.specs.Totals.{arc_total}
-use Rattle.model_text.proofs.FitLemmas.{GivesOnly, given, after, var_wanted-fits, or_false}
+use Rattle.model_text.proofs.LineReads.{var-reads}
+use Rattle.model_text.proofs.FitLemmas.{GivesOnly, given, after, gives, or_false}
 use Rattle.model_text.proofs.RowFitLemmas.{row_wanted-fits}
 use Rattle.model_text.proofs.GraphFitLemmas.{vertex_wanted-fits, arc_wanted-fits, graph_wanted-fits, sets_wanted-few}
 use Rattle.model_text.proofs.DraftFitLemmas.{SectionFits, DraftFits, with_vertex-fits, with_arc-fits, begun_section-fits, more_sections, changed_section, in_section-fits, no_rows-fit, no_sections-fit, terms_begin, more_rows}
@@ -34,7 +35,7 @@ below_limit n limit h = grind (arith, nat_tests, h)
 
 var_step : (d : Draft) (n : ℕ) → passes_limit line.Var (at Variables d) ≡ false → DraftFits (at Variables d) → GivesOnly (further_wanted line.Var (at Variables d) n) DraftFits
 var_step d n room fit =
-    after var_wanted-fits (λ v fits.
+    after (gives var-reads) (λ v fits.
     given (record (at Variables d) { vars = d.vars ++ v ∷ [] })
     (record {
       vars = more_vars d.vars v fit.vars (below_limit (length d.vars) 30000 room) fits;
@@ -47,7 +48,7 @@ var_step d n room fit =
 
 row_step : (d : Draft) (stage : Stage) (n : ℕ) → sections_of (at stage d) ≡ d.done → d.done ≡ [] → passes_limit line.Row (at stage d) ≡ false → DraftFits (at stage d) → GivesOnly (further_wanted line.Row (at stage d) n) DraftFits
 row_step d stage n closed none room fit =
-    after (row_wanted-fits d.vars d.rows (terms_begin (length d.vars) d.rows fit.rows)) (λ row fits.
+    after (row_wanted-fits d.vars d.rows fit.vars.few (terms_begin (length d.vars) d.rows fit.rows)) (λ row fits.
     given (record (at stage d) { stage = Rows; rows = d.rows ++ row ∷ [] })
     (record {
       vars = fit.vars;
@@ -97,9 +98,12 @@ vertex_step d n fit =
     (in_section-fits (at Vertices d) s fit.vars fit.rows fit.sets (changed_section d.done d.current s fit.sections refl (omega (arith, arcs, arcs_of_done d.done d.current))) fit.done
     (with_vertex-fits (length d.vars) d.sets d.current v fit.stage fits.0 fits.1 fits.2)))
 
+pub whole_few : {vars sets : ℕ} (s : Section) → SectionFits vars sets s → length s.vertices ≤ 1024
+whole_few s fit = let few = fit.begun.few_vertices in let whole = fit.whole in omega (arith, few, whole)
+
 arc_step : (d : Draft) (n : ℕ) → passes_limit line.Arc (at Arcs d) ≡ false → DraftFits (at Arcs d) → GivesOnly (further_wanted line.Arc (at Arcs d) n) DraftFits
 arc_step d n room fit =
-    after (arc_wanted-fits (length d.vars) d.current) (λ a fits.
+    after (arc_wanted-fits (length d.vars) d.current fit.vars.few (whole_few d.current fit.stage)) (λ a fits.
     let s : Section = with_arc d.current a.0 a.1 in
     let parts = or_false (not (nat_lt (length d.current.arcs) 60000)) (not (nat_lt (arc_total (d.done ++ d.current ∷ [])) 100000)) room in
     let few = below_limit (length d.current.arcs) 60000 parts.0 in

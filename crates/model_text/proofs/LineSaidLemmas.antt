@@ -1,5 +1,5 @@
 -- Each line that is read stands behind the lines that were told before.
-use Rattle.std.proofs.Common.{◌≡◌, ℕ, Bool, true, false, List, [], ◌∷◌, ◌++◌, length, refl, ap, subst, sym, ◌∙◌, append-nil, inl, inr, arith, Option, None, Some}
+use Rattle.std.proofs.Common.{◌≡◌, ◌≤◌, ℕ, Bool, true, false, List, [], ◌∷◌, ◌++◌, length, refl, ap, subst, sym, ◌∙◌, append-nil, inl, inr, arith, Option, None, Some}
 use Rattle.std.specs.Prelude.{◌==◌, codes, if◌then◌else◌}
 use Rattle.std.specs.Str.{bytes_eq}
 use Rattle.std.proofs.lemmas.Bool.Decides.{nat_tests}
@@ -17,6 +17,7 @@ use Rattle.model_text.specs.ModelLines.{sets_words, vertex_words, arc_words}
 use Rattle.model_text.specs.Spelling.{IsSetsPart}
 use Rattle.model_text.proofs.DraftFitLemmas.{DraftFits}
 use Rattle.model_text.proofs.LineFitLemmas.{at}
+use Rattle.model_text.proofs.LineFitLemmas.{whole_few}
 use Rattle.model_text.proofs.SpendLemmas.{Spends, given, after}
 use Rattle.model_text.proofs.LineSpendLemmas.{var_wanted-spends, row_wanted-spends, sets_wanted-spends, graph_wanted-spends, vertex_wanted-spends, arc_wanted-spends}
 use Rattle.model_text.proofs.DraftLineLemmas.{parts_lines, Said, vars_more, rows_more, sets_more, sections_more, section_goes_on, vertex_more, arc_more}
@@ -57,9 +58,9 @@ var_step d n told fit said =
     line_of told (codes "var") (λ v. record (at Variables d) { vars = d.vars ++ v ∷ [] }) var_wanted-spends (λ v.
     record { sets = said.sets; stage = said.stage; words = vars_more d.vars d.rows said.sets d.done v told fit.stage.0 said.stage.1 fit.stage.1 said.words })
 
-row_step : (d : Draft) (stage : Stage) (n : ℕ) (told sets : List Words) → d.sets ≡ 0 → sets ≡ [] → d.done ≡ [] → told ≡ parts_lines d.vars d.rows sets d.done ++ [] → Spends (further_wanted line.Row (at stage d) n) (Goes told (codes "row"))
-row_step d stage n told sets zero none closed words =
-    line_of told (codes "row") (λ row. record (at stage d) { stage = Rows; rows = d.rows ++ row ∷ [] }) (row_wanted-spends d.vars d.rows) (λ row.
+row_step : (d : Draft) (stage : Stage) (n : ℕ) (told sets : List Words) → length d.vars ≤ 30000 → d.sets ≡ 0 → sets ≡ [] → d.done ≡ [] → told ≡ parts_lines d.vars d.rows sets d.done ++ [] → Spends (further_wanted line.Row (at stage d) n) (Goes told (codes "row"))
+row_step d stage n told sets few zero none closed words =
+    line_of told (codes "row") (λ row. record (at stage d) { stage = Rows; rows = d.rows ++ row ∷ [] }) (row_wanted-spends d.vars d.rows few) (λ row.
     record { sets = sets; stage = (zero, none); words = rows_more d.vars d.rows sets d.done row told none closed words })
 
 sets_step : (d : Draft) (stage : Stage) (n : ℕ) (told sets : List Words) → sets ≡ [] → d.done ≡ [] → told ≡ parts_lines d.vars d.rows sets d.done ++ [] → Spends (further_wanted line.Sets (at stage d) n) (Goes told (codes "sets"))
@@ -86,7 +87,7 @@ in_section-said d s told sets part none words = by_test (length s.vertices == s.
 
 vertex_step : (d : Draft) (n : ℕ) (told : List Words) → DraftFits (at Vertices d) → Said (at Vertices d) told → Spends (further_wanted line.Vertex (at Vertices d) n) (Goes told (codes "vertex"))
 vertex_step d n told fit said =
-    line_of told (codes "vertex") (λ v. in_section (at Vertices d) (with_vertex d.current v)) (vertex_wanted-spends d.sets d.current.count d.current fit.stage.ends) (λ v.
+    line_of told (codes "vertex") (λ v. in_section (at Vertices d) (with_vertex d.current v)) (vertex_wanted-spends d.sets d.current.count d.current fit.sets fit.stage.ends) (λ v.
     in_section-said (at Vertices d) (with_vertex d.current v) _ said.sets said.stage.0 (λ _. said.stage.1)
     (section_goes_on d.vars d.rows said.sets d.done d.current (with_vertex d.current v) (vertex_words d.current.ends v) told (vertex_more d.current v said.stage.1) said.words))
 
@@ -96,7 +97,7 @@ is_not_whole s whole test = absurd (grind (arith, nat_tests, whole, test))
 arc_step : (d : Draft) (n : ℕ) (told : List Words) → DraftFits (at Arcs d) → Said (at Arcs d) told → Spends (further_wanted line.Arc (at Arcs d) n) (Goes told (codes "arc"))
 arc_step d n told fit said =
     let begun = fit.stage.begun in
-    line_of told (codes "arc") (λ a. in_section (at Arcs d) (with_arc d.current a.0 a.1)) (arc_wanted-spends (length d.vars) d.current.count d.current begun.ends) (λ a.
+    line_of told (codes "arc") (λ a. in_section (at Arcs d) (with_arc d.current a.0 a.1)) (arc_wanted-spends (length d.vars) d.current.count d.current fit.vars.few (whole_few d.current fit.stage) begun.ends) (λ a.
     let s : Section = with_arc d.current a.0 a.1 in
     in_section-said (at Arcs d) s _ said.sets said.stage (is_not_whole s fit.stage.whole)
     (section_goes_on d.vars d.rows said.sets d.done d.current s (arc_words d.current.ends a.0 a.1) told (arc_more d.current a.0 a.1 (sym begun.mapped)) said.words))
@@ -108,8 +109,8 @@ end_step d stage n told sets part words =
 
 pub further_wanted-said : (kind : LineKind) (stage : Stage) (d : Draft) (n : ℕ) (told : List Words) → may_stand kind stage ≡ true → DraftFits (at stage d) → Said (at stage d) told → Spends (further_wanted kind (at stage d) n) (Goes told (name_of kind))
 further_wanted-said line.Var Variables d n told stands fit said = var_step d n told fit said
-further_wanted-said line.Row Variables d n told stands fit said = row_step d Variables n told said.sets said.stage.0 said.stage.1 fit.stage.1 said.words
-further_wanted-said line.Row Rows d n told stands fit said = row_step d Rows n told said.sets said.stage.0 said.stage.1 fit.stage said.words
+further_wanted-said line.Row Variables d n told stands fit said = row_step d Variables n told said.sets fit.vars.few said.stage.0 said.stage.1 fit.stage.1 said.words
+further_wanted-said line.Row Rows d n told stands fit said = row_step d Rows n told said.sets fit.vars.few said.stage.0 said.stage.1 fit.stage said.words
 further_wanted-said line.Sets Variables d n told stands fit said = sets_step d Variables n told said.sets said.stage.1 fit.stage.1 said.words
 further_wanted-said line.Sets Rows d n told stands fit said = sets_step d Rows n told said.sets said.stage.1 fit.stage said.words
 further_wanted-said line.Graph Variables d n told stands fit said = graph_step d Variables n told said.sets (inr said.stage) said.words

@@ -13,7 +13,7 @@ use Rattle.model_text.specs.declared.line_kind.LineKind.TheVariants as line
 use Rattle.line_text.specs.Words.{Words, are_some_words}
 use Rattle.model_text.specs.LineKinds.{kind_of, may_stand, passes_limit, further_wanted}
 use Rattle.line_text.specs.Reading.{all_taken, at_line, go_on}
-use Rattle.model_text.specs.FirstFault.{line_within, words_read, lines_read}
+use Rattle.model_text.proofs.StageLines.{line_within, words_read, lines_read}
 use Rattle.line_text.specs.Spelling.{in_printed_form}
 use Rattle.line_text.proofs.NumberWordLemmas.{plain_is}
 use Rattle.model_text.proofs.ReaderLemmas.{words_read-within}

@@ -113,6 +113,6 @@ both_stand : (d : PlanDraft) (i : PathItem) → Stands path_named (path_rule ∷
 both_stand d (Path t) = (refl, refl)
 both_stand d End = (refl, refl)
 
-pub path_lines : IsGrammar path_grammar (ByForm (form_of path_named)) (form_of path_named) May
+pub path_lines : IsGrammar path_grammar (λ _. Unit {0}) (ByForm (form_of path_named)) (form_of path_named) May
 path_lines =
     by_reads (λ i. refl) (λ d going. same_as (by_first_word-reads path_named May (path_rule ∷ end_rule ∷ []) all_rules d) (λ i k h. (refl, h.1)) (λ i k h. (both_stand d i, h)))

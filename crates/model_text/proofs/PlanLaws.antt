@@ -89,7 +89,7 @@ leads plan items says =
 abbrev IsPathLine : PathItem → Words → Type 0
 IsPathLine = ByForm (form_of path_named)
 
-pub path_text : IsText path_grammar IsPathLine (form_of path_named) May (λ d. d.plan) SaysPlan
+pub path_text : IsText path_grammar (λ _. Unit {0}) IsPathLine (form_of path_named) May (λ d. d.plan) SaysPlan
 path_text = record { grammar = path_lines; runs = says; leads = leads }
 
 -- a text spells a plan

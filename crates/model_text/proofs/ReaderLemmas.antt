@@ -5,7 +5,7 @@ use Rattle.model_text.specs.declared.draft.Stage.TheVariants.{Opening, Variables
 use Rattle.model_text.specs.declared.draft.Draft.{Draft}
 use Rattle.line_text.specs.Words.{Words}
 use Rattle.model_text.specs.LineKinds.{kind_of}
-use Rattle.model_text.specs.FirstFault.{line_within, words_read}
+use Rattle.model_text.proofs.StageLines.{line_within, words_read}
 
 -- a line with words between the version line and the end
 pub words_read-within : (d : Draft) (stage : Stage) (n : ℕ) (words : Words) (first : List ℕ) (rest : Words) → (stage ≡ Opening → ⊥) → (stage ≡ Ended → ⊥) → words ≡ first ∷ rest → words_read d stage n words ≡ line_within d n rest (kind_of first)

@@ -20,7 +20,8 @@ use Rattle.line_text.specs.Words.{Words, are_some_words}
 use Rattle.model_text.specs.Draft.{empty_draft, parts_of}
 use Rattle.model_text.specs.LineKinds.{version_words, kind_of, may_stand, passes_limit, further_wanted}
 use Rattle.line_text.specs.Reading.{all_taken}
-use Rattle.model_text.specs.FirstFault.{line_of_kind, line_within, words_read, line_read, lines_read, text_read, IsModelOf, ReadsAs}
+use Rattle.model_text.specs.FirstFault.{text_read, IsModelOf, ReadsAs}
+use Rattle.model_text.proofs.StageLines.{line_of_kind, line_within, words_read, line_read, lines_read, text_read-is}
 use Rattle.model_text.specs.ModelLines.{model_lines}
 use Rattle.line_text.specs.Spelling.{in_printed_form}
 use Rattle.model_text.specs.Spelling.{Spells}
@@ -159,7 +160,7 @@ spelled text (Ok d) m spells is model = subst (Spells text) is.0 (spells d refl 
 
 text_read-spelled : (text : List ℕ) (d : Draft) → text_read text ≡ Ok d → IsModel (parts_of d) → Spells text (parts_of d)
 text_read-spelled text d h model =
-    let parts = after_lines (lines_read empty_draft 1 (lines_of text)) text d h in
+    let parts = after_lines (lines_read empty_draft 1 (lines_of text)) text d (sym (text_read-is text) ∙ h) in
     let fit = text_read-fits text d h in
     text_spelled text d fit.1 fit.0 (lines_read-accepted empty_draft d 1 (lines_of text) parts.0) (opening_read empty_draft d 1 (lines_of text) refl fit.1 parts.0) model
 

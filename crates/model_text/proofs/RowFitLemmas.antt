@@ -1,5 +1,5 @@
 -- What the words of a row and of an arc tell keeps the orders and limits of a model.
-use Rattle.std.proofs.Common.{◌≡◌, ℕ, zero, suc, ◌+◌, ◌-◌, ◌≤◌, ◌<◌, pos, neg_ℤ, unsigned_abs, Bool, true, false, not, List, [], ◌∷◌, ◌++◌, length, get_or, refl, ap, ◌∙◌, arith, Option, None, Some}
+use Rattle.std.proofs.Common.{◌≡◌, ℕ, zero, suc, ◌+◌, ◌-◌, ◌≤◌, ◌<◌, unsigned_abs, Bool, true, false, List, [], ◌∷◌, ◌++◌, length, get_or, refl, ap, ◌∙◌, arith, Option, None, Some}
 use Rattle.std.specs.Prelude.{◌==◌, nat_lt, if◌then◌else◌, All, option_map, slice_get}
 use Rattle.std.proofs.lemmas.Bool.Decides.{nat_tests}
 use Rattle.std.proofs.lemmas.List.{length-append, get_or_append_left}
@@ -11,11 +11,11 @@ use Rattle.route_model.specs.declared.parts.Var.{Var}
 use Rattle.route_model.specs.declared.parts.RowTerm.{RowTerm}
 use Rattle.route_model.specs.declared.parts.Row.{Row}
 use Rattle.route_model.specs.Fit.{Ascends, TermFits, RowFits, MapFits, row_coef, total_coef}
-use Rattle.line_text.specs.declared.fault.Kind.TheVariants as fault
-use Rattle.model_text.specs.LineWords.{last_of, is_above, are_reversed, term_wanted, row_wanted, mapped_wanted}
-use Rattle.line_text.specs.Words.{to_the_end}
+use Rattle.model_text.specs.LineWords.{last_of, is_above, row_wanted}
 use Rattle.model_text.specs.Totals.{term_total}
-use Rattle.model_text.proofs.FitLemmas.{GivesOnly, given, after, checked, known_below-below, number_in-in, to_the_end-keeps, side_wanted-fits, sides_fit}
+use Rattle.line_text.proofs.ListReads.{EachAfter, each_keeps}
+use Rattle.model_text.proofs.LineReads.{TermMay, MappedMay, row-reads}
+use Rattle.model_text.proofs.FitLemmas.{GivesOnly, gives, weaker}
 
 -- a key above the last one goes on
 pub ascends_push : {X : Type 0} (key : X → ℕ) (xs : List X) (x : X) → Ascends key xs → is_above (option_map key (last_of xs)) (key x) ≡ true → Ascends key (xs ++ x ∷ [])
@@ -67,55 +67,37 @@ coef_push rows terms t j old new =
         omega (arith, here)
     choose false is = omega (arith, old)
 
-not_true : (b : Bool) → not b ≡ false → b ≡ true
-not_true true h = refl
-not_true false h = cc
-
-term_wanted-fits : (vars : List Var) (rows : List Row) (terms : List RowTerm) → TermsFit (length vars) rows terms → GivesOnly (term_wanted vars rows terms) (λ t. TermsFit (length vars) rows (terms ++ t ∷ []))
-term_wanted-fits vars rows terms fit =
-    after (known_below-below (length vars)) (λ var v.
-    checked fault.Order (not (is_above (option_map (λ t. t.var) (last_of terms)) var)) (λ above.
-    after (number_in-in (neg_ℤ (pos 1000000)) (pos 1000000)) (λ coef c.
-    checked fault.TooMany (not (nat_lt (term_total rows + length terms) 1000000)) (λ few.
-    checked fault.TooMany (nat_lt 1048576 (total_coef rows var + row_coef var terms + unsigned_abs coef)) (λ small.
-    let t : RowTerm = record { var = var; coef = coef } in
-    let room : term_total rows + length terms < 1000000 = grind (arith, nat_tests, few) in
-    let sum : total_coef rows var + row_coef var terms + unsigned_abs coef ≤ 1048576 = grind (arith, nat_tests, small) in
-    given t
-    (record {
-      each = All-push (TermFits (length vars)) terms t fit.each (record { var = v; coef = c });
-      ascend = ascends_push (λ t. t.var) terms t fit.ascend (not_true _ above);
+-- a term more
+term_more : (vars : List Var) (rows : List Row) (terms : List RowTerm) (t : RowTerm) → TermsFit (length vars) rows terms → TermMay vars rows terms t → TermsFit (length vars) rows (terms ++ t ∷ [])
+term_more vars rows terms t fit may =
+    let room = may.3 in
+    record {
+      each = All-push (TermFits (length vars)) terms t fit.each (record { var = may.0; coef = may.2 });
+      ascend = ascends_push (λ t. t.var) terms t fit.ascend may.1;
       few = omega (arith, room, length-append terms (t ∷ []));
-      coefs = λ j h. coef_push rows terms t j (fit.coefs j h) sum;
-    }))))))
+      coefs = λ j h. coef_push rows terms t j (fit.coefs j h) may.4;
+    }
 
-pub row_wanted-fits : (vars : List Var) (rows : List Row) → TermsFit (length vars) rows [] → GivesOnly (row_wanted vars rows) (λ row. RowFits (length vars) row × TermsFit (length vars) rows row.terms)
-row_wanted-fits vars rows none =
-    after side_wanted-fits (λ low l.
-    after side_wanted-fits (λ high h.
-    checked fault.Box (are_reversed low high) (λ sides.
-    after (to_the_end-keeps {I = TermsFit (length vars) rows} (term_wanted vars rows) (term_wanted-fits vars rows) none) (λ terms t.
-    given (record { low = low; high = high; terms = terms })
-    (record { sides = sides_fit low high l h sides; each = t.each; ascend = t.ascend }, t)))))
+pub row_wanted-fits : (vars : List Var) (rows : List Row) → length vars ≤ 30000 → TermsFit (length vars) rows [] → GivesOnly (row_wanted vars rows) (λ row. RowFits (length vars) row × TermsFit (length vars) rows row.terms)
+row_wanted-fits vars rows few none =
+    weaker (gives (row-reads vars rows few)) (λ row h.
+    let terms = each_keeps (TermsFit (length vars) rows) (term_more vars rows) [] row.terms none h.1 in
+    (record { sides = h.0; each = terms.each; ascend = terms.ascend }, terms))
 
+-- the mapped variables of an arc
 above_same : (last : Option ℕ) (n : ℕ) → is_above last n ≡ true → is_above (option_map (λ j. j) last) n ≡ true
 above_same None n h = h
 above_same (Some last) n h = h
 
-mapped_wanted-fits : (vars : ℕ) (mapped : List ℕ) → MapFits vars mapped → GivesOnly (mapped_wanted vars mapped) (λ j. MapFits vars (mapped ++ j ∷ []))
-mapped_wanted-fits vars mapped fit =
-    after (known_below-below vars) (λ j v.
-    checked fault.Order (not (is_above (last_of mapped) j)) (λ above.
-    checked fault.TooMany (not (nat_lt (length mapped) 16)) (λ few.
-    let room : length mapped < 16 = grind (arith, nat_tests, few) in
-    given j
-    (record {
+mapped_more : (vars : ℕ) (mapped : List ℕ) (j : ℕ) → MapFits vars mapped → MappedMay vars mapped j → MapFits vars (mapped ++ j ∷ [])
+mapped_more vars mapped j fit may =
+    let room = may.2 in
+    record {
       few = omega (arith, room, length-append mapped (j ∷ []));
-      each = All-push (λ i. i < vars) mapped j fit.each v;
-      ascend = ascends_push (λ i. i) mapped j fit.ascend (above_same (last_of mapped) j (not_true _ above));
-    }))))
+      each = All-push (λ i. i < vars) mapped j fit.each may.0;
+      ascend = ascends_push (λ i. i) mapped j fit.ascend (above_same (last_of mapped) j may.1);
+    }
 
-pub mapped_to_the_end-fits : (vars : ℕ) → GivesOnly (to_the_end (mapped_wanted vars)) (MapFits vars)
-mapped_to_the_end-fits vars =
-    to_the_end-keeps {I = MapFits vars} (mapped_wanted vars) (mapped_wanted-fits vars)
-    (record { few = omega arith; each = All-nil (λ i. i < vars); ascend = ascends_nil (λ i. i) })
+pub mapped_fit : (vars : ℕ) (mapped : List ℕ) → EachAfter (MappedMay vars) [] mapped → MapFits vars mapped
+mapped_fit vars mapped each =
+    each_keeps (MapFits vars) (mapped_more vars) [] mapped (record { few = omega arith; each = All-nil (λ i. i < vars); ascend = ascends_nil (λ i. i) }) each

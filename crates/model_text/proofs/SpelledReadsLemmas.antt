@@ -22,12 +22,14 @@ use Rattle.model_text.specs.LineKinds.{version_words, may_stand}
 use Rattle.model_text.specs.ModelLines.{var_words, row_words, graph_lines, model_lines}
 use Rattle.model_text.specs.FreeCycles.{HasFreeCycle}
 use Rattle.line_text.specs.Reading.{at_line, go_on}
-use Rattle.model_text.specs.FirstFault.{lines_read, end_wanted, text_read, IsModelOf, ReadsAs}
+use Rattle.model_text.specs.FirstFault.{text_read, IsModelOf, ReadsAs}
+use Rattle.model_text.proofs.StageLines.{lines_read, end_wanted, text_read-is}
 use Rattle.line_text.specs.Spelling.{in_printed_form}
 use Rattle.model_text.specs.Spelling.{Spells, IsSetsPart}
 use Rattle.model_text.proofs.ItemLemmas.{All-zip}
 use Rattle.model_text.proofs.TextFitLemmas.{sum_by-map}
-use Rattle.model_text.proofs.TakenLemmas.{given, headed, no_items, by_false}
+use Rattle.line_text.proofs.Judgement.{no_items}
+use Rattle.model_text.proofs.TakenLemmas.{given, headed, by_false}
 use Rattle.model_text.proofs.LineTakenLemmas.{wordy, AreAccepted, next_line, no_words_read, line_told, printed_lines, Goes, goes_on}
 use Rattle.model_text.proofs.DraftTakenLemmas.{vars_go, rows_go, with_rows, rows_stage, SetsGone, sets_go}
 use Rattle.model_text.proofs.GraphsTakenLemmas.{Pair, PairFits, values_of-zip, whole_section, with_graphs, GraphsRoom, graphs_go, with_graphs-vars, with_graphs-rows, with_graphs-sets, with_graphs-sections, with_graphs-stage, graphs_of_sections, maps_of_sections}
@@ -155,5 +157,5 @@ pub spelled_reads : (text : List ℕ) (m : ModelParts) → Spells text m → Rea
 spelled_reads text m spells =
     let all = spelled_lines text m spells in
     let fit = spells.model.fits in
-    let read : text_read text ≡ Ok (ended all.draft all.end) = ap (λ r. go_on r (end_wanted text)) all.same in
+    let read : text_read text ≡ Ok (ended all.draft all.end) = text_read-is text ∙ ap (λ r. go_on r (end_wanted text)) all.same in
     subst (λ r. IsModelOf r m) (sym read) (told_parts m all.draft all.end all.told, no_cycle m fit, spells.model.costs)

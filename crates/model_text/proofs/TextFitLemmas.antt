@@ -21,7 +21,8 @@ use Rattle.line_text.specs.Words.{Words}
 use Rattle.model_text.specs.Draft.{empty_draft, graph_of, parts_of}
 use Rattle.model_text.specs.LineKinds.{version_words, kind_of, may_stand, passes_limit, further_wanted}
 use Rattle.line_text.specs.Reading.{all_taken, at_line, go_on}
-use Rattle.model_text.specs.FirstFault.{line_of_kind, line_within, words_read, line_read, lines_read, is_ended, end_wanted, text_read, IsModelOf, ReadsAs}
+use Rattle.model_text.specs.FirstFault.{is_ended, text_read, IsModelOf, ReadsAs}
+use Rattle.model_text.proofs.StageLines.{line_of_kind, line_within, words_read, line_read, lines_read, end_wanted, text_read-is}
 use Rattle.path_graph.specs.Free.{HasNoFreeCycle}
 use Rattle.model_text.specs.FreeCycles.{HasFreeCycle}
 use Rattle.model_text.specs.Totals.{path_total, arc_total}
@@ -115,7 +116,7 @@ after_lines (Ok d) text e h = let end = ended text d e d.stage refl h in (ap (λ
 
 pub text_read-fits : (text : List ℕ) (d : Draft) → text_read text ≡ Ok d → DraftFits d × (d.stage ≡ Ended)
 text_read-fits text d h =
-    let parts = after_lines (lines_read empty_draft 1 (lines_of text)) text d h in
+    let parts = after_lines (lines_read empty_draft 1 (lines_of text)) text d (sym (text_read-is text) ∙ h) in
     (lines_read-fits empty_draft d 1 (lines_of text) empty_fits parts.0, parts.1)
 
 pub sum_by-map : {X Y : Type 0} (f : Y → ℕ) (h : X → Y) (n : ℕ) (xs : List X) → fold (λ a y. a + f y) n (map h xs) ≡ fold (λ a x. a + f (h x)) n xs

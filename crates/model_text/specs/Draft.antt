@@ -37,6 +37,11 @@ stage_in s = if length s.vertices == s.count then Arcs else Vertices
 abbrev pub in_section : Draft → Section → Draft
 in_section d s = record d { stage = stage_in s; current = s }
 
+-- no line with words is read
+abbrev pub is_opening : Stage → Bool
+is_opening Opening = true
+is_opening _ = false
+
 -- the lines of a graph are read
 abbrev pub is_in_graph : Stage → Bool
 is_in_graph Vertices = true

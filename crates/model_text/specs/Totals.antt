@@ -44,3 +44,8 @@ pub record IsUnderway (d : Draft) : Type 0 where
 pub record KeepsVarsAndRows (old new : Draft) : Type 0 where
   pub vars : new.vars ≡ old.vars
   pub rows : new.rows ≡ old.rows
+
+-- what holds of the parts and of the sums between lines
+pub record IsSound (d : Draft) (coefs : List ℕ) : Type 0 where
+  pub underway : IsUnderway d
+  pub sums : AreCoefs coefs d.vars d.rows []

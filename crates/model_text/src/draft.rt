@@ -1,5 +1,5 @@
 ghost use Rattle.std.specs.Prelude.{◌≡◌};
-ghost use Rattle.model_text.specs.Draft.{is_in_graph};
+ghost use Rattle.model_text.specs.Draft.{is_in_graph, is_opening};
 
 use path_graph::{Ends, GraphArc, List, Vertex};
 use route_model::{Row, Var};
@@ -51,6 +51,13 @@ pub struct Draft {
 }
 
 impl Stage {
+    /// Whether no line with words is read.
+    pub fn is_opening(self) -> bool
+        ensures { result ≡ is_opening self }
+    {
+        matches!(self, Stage::Opening)
+    }
+
     /// Whether the lines of a graph are read.
     pub fn is_in_graph(self) -> bool
         ensures { result ≡ is_in_graph self }

@@ -3,9 +3,9 @@ ghost use Rattle.route_model.specs.Parts.{ModelParts};
 ghost use Rattle.model_text.specs.Spelling.{Spells};
 ghost use Rattle.model_text.specs.Refusal.{IsRefusal};
 
-use crate::draft_reader::read_draft;
+use crate::draft_reader::DraftReader;
 use crate::model_build::model_of;
-use line_text::ReadError;
+use line_text::{ReadError, read_text};
 use route_model::Model;
 use std::alloc::Global;
 
@@ -20,6 +20,6 @@ pub fn read_model(alloc: Global, bytes: &[u8]) -> Result<Model, ReadError>
     ensures only { IfOk result (λ model. (m : ModelParts) → Spells bytes.now m → m ≡ model) }
     ensures refused { IfErr result (IsRefusal bytes.now) }
 {
-    let draft = read_draft(alloc, bytes)?;
-    model_of(alloc, draft)
+    let reader: DraftReader = read_text(alloc, bytes)?;
+    model_of(alloc, reader.draft)
 }

@@ -10,6 +10,8 @@ mod lexing;
 #[cfg(test)]
 mod limits;
 #[cfg(test)]
+mod line_words;
+#[cfg(test)]
 mod outcomes;
 #[cfg(test)]
 mod plans;
