@@ -14,13 +14,13 @@ pub enum Stage {
     Variables,
     /// Among the rows.
     Rows,
-    /// Behind the line of the sets.
+    /// After the line of the sets.
     Sets,
     /// In a graph of which vertices are still to come.
     Vertices,
     /// In a graph that has all its vertices.
     Arcs,
-    /// Behind the end line.
+    /// After the end line.
     Ended,
 }
 

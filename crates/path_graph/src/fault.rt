@@ -3,7 +3,7 @@ ghost use Rattle.path_graph.specs.declared.fault.GraphFault.TheVariants.{Memory}
 
 use crate::list::{List, NoMemory};
 
-/// Why a graph can't be made of parts that fit.
+/// Why no graph is made of parts that fit.
 #[derive(Debug, Drop)]
 pub enum GraphFault {
     /// Arcs without main consumption form a cycle: its arcs, in order. The head of each is the tail of the next, and

@@ -16,7 +16,7 @@ use std::marker::Model;
 /// A directed graph whose walks from the source to the sink are bounded by resources.
 ///
 /// Contracts see it as its parts, which fit, and in which arcs without main consumption form no cycle. It keeps the
-/// arcs at each vertex and the ranks of the vertices, so that each is told in one step.
+/// arcs at each vertex and the ranks of the vertices, so that each is looked up in one step.
 #[derive(Drop)]
 pub struct Graph {
     ends: Ends,

@@ -1,6 +1,6 @@
 //! Path graphs: directed graphs whose walks from a source to a sink consume resources.
 //!
-//! The crate says what a feasible walk is, and tells whether a list of arcs is one.
+//! The crate defines feasible walks, and tests whether a list of arcs is one.
 //! It also has `List` and `NoMemory`, which every crate above uses.
 #![tactic(auto)]
 

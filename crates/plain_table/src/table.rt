@@ -11,14 +11,14 @@ use label_space::Space;
 use path_graph::{List, NoMemory};
 use std::alloc::Global;
 
-/// What came of filling a table.
+/// How filling a table ended.
 #[derive(Debug, Drop)]
 pub enum Filled<L> {
     /// Each kept entry is done: nothing is missing.
     Closed(Table<L>),
     /// The limit is reached, and there is one label more.
     Wall(Table<L>),
-    /// Want of memory.
+    /// Out of memory.
     Memory,
 }
 

@@ -17,7 +17,7 @@ pub struct Plan {
     pub paths: List<Taken>,
 }
 
-/// What is found of a plan: its cost where it is a solution, or else its first fault.
+/// The verdict on a plan: its cost where it is a solution, or else its first fault.
 #[derive(Clone, Copy, Debug, PartialEq, Eq)]
 pub enum Verdict {
     Fine { cost: i64 },

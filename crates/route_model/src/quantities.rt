@@ -16,7 +16,7 @@ trait WalkQuantity {
     /// The quantity of a walk, by its graph and arcs.
     ghost of_walk: { Self → ℕ → List ℕ → ℕ };
 
-    /// The walks of which it is told.
+    /// The walks that it is defined for.
     ghost is_told: { Self → ℕ → List ℕ → Type 0 };
 
     fn of_walk(&self, graph: u32, arcs: &[u32]) -> u64

@@ -15,7 +15,7 @@ use crate::plan::{Plan, Taken, Verdict};
 use crate::quantities::{path_count, set_visits, value};
 use path_graph::{Graph, List, is_walk};
 
-/// What is found of a plan: that it is a solution, with its cost, or its first fault, in this order:
+/// Whether a plan is a solution, with its cost, or else its first fault, in this order:
 /// a path, by place; a graph's count; a packing set; a variable; a row.
 ///
 /// The time grows as the arcs of the paths times variables and packing sets. It takes no memory.

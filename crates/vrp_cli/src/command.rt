@@ -2,10 +2,10 @@ ghost use Rattle.std.specs.Prelude.{◌≡◌, ℕ, List, map, string_bytes, Mat
 ghost use Rattle.vrp_cli.specs.declared.command.Command.{Command};
 ghost use Rattle.vrp_cli.specs.Commands.{word_of, Takes, AreTaken};
 
-/// What the program is asked for, each by its one word.
+/// The commands of the program, each one word.
 #[derive(Clone, Copy, Debug, PartialEq, Eq)]
 pub enum Command {
-    /// `solve`: a least plan of a model.
+    /// `solve`: a plan of least cost.
     Solve,
     /// `print`: the printed text of a model.
     Print,

@@ -27,7 +27,7 @@ pub(crate) fn eval(alloc: Global, input: &[u8]) -> Result<Answer, NoMemory>
     }
 }
 
-/// What is answered to a path text behind a model.
+/// The answer to the text of a plan after a model.
 fn eval_paths(alloc: Global, model: &Model, paths: &[u8]) -> Result<Answer, NoMemory>
     requires { length paths.now < 2 ^ 32 - 1 }
     ensures { IfOk result (AnswersPaths model.now paths.now) }
@@ -41,7 +41,7 @@ fn eval_paths(alloc: Global, model: &Model, paths: &[u8]) -> Result<Answer, NoMe
     }
 }
 
-/// What is answered to a plan.
+/// The answer to a plan.
 fn eval_plan(alloc: Global, model: &Model, plan: &Plan) -> Result<Answer, NoMemory>
     requires { IsCounted plan.now }
     ensures { IfOk result (AnswersPlan model.now plan.now) }

@@ -22,7 +22,7 @@ use vrp_io::{Gate, ReadFault, Sink, Source, read_all, write_all};
 /// How a run ended: the number that the program ends with.
 ///
 /// 0 optimal, printed or fine, 1 infeasible, 2 refused words, 3 refused model, 4 refused paths or plan, 7 fault of
-/// reading, 8 fault of writing, 9 want of memory, 10 input too long.
+/// reading, 8 fault of writing, 9 out of memory, 10 input too long.
 #[derive(Clone, Copy, Debug, PartialEq, Eq)]
 pub struct Status {
     pub number: u8,
@@ -30,8 +30,8 @@ pub struct Status {
 
 /// Runs the program: reads the words, then the whole input, then works, and writes the whole answer.
 ///
-/// `words` are those after the program's name. Words that are not taken are refused before anything is read. No call
-/// under it waits, so it returns for every input.
+/// `words` are those after the program's name. Words that are not one of the commands are refused before anything is
+/// read. No call under it waits, so it returns for every input.
 pub fn run_vrp<R: Threads + Sync, S: Source, K: Sink, G: Gate + Sync>(
     _rt: &R,
     alloc: Global,

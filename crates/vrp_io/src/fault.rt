@@ -5,7 +5,7 @@ use thiserror::Error;
 #[error("a read or a write failed")]
 pub struct Failed;
 
-/// Why the input can't be had.
+/// Why the input was not read.
 #[derive(Clone, Copy, Debug, PartialEq, Eq, Error)]
 pub enum ReadFault {
     #[error("a read failed")]
@@ -16,7 +16,7 @@ pub enum ReadFault {
     Memory,
 }
 
-/// Why the output can't be written.
+/// Why the output was not written.
 #[derive(Clone, Copy, Debug, PartialEq, Eq, Error)]
 pub enum WriteFault {
     #[error("a write failed")]

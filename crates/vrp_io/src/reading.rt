@@ -11,7 +11,7 @@ use std::alloc::Global;
 /// How many bytes a read asks for at most.
 const PIECE: usize = 4_096;
 
-/// Reads once, and puts the bytes at the end. No more than `most` bytes are then there.
+/// Reads once and appends the bytes. At most `most` bytes are then there.
 fn read_more<S: Source>(
     source: &mut S,
     most: usize,
@@ -43,7 +43,7 @@ fn read_more<S: Source>(
 
 /// Reads all bytes to the end, if they are no more than the limit.
 ///
-/// Room is reserved before each read, so want of memory loses no byte of the last read. After a
+/// Room is reserved before each read, so that no byte is lost where memory runs out. After a
 /// refusal the source has given what the reads took.
 pub fn read_all<S: Source>(alloc: Global, source: &mut S, limit: u32) -> Result<List<u8>, ReadFault>
     ensures bytes { IfOk result (λ bytes. TookAll (S.left source.old) (S.left source.new) bytes) }

@@ -8,13 +8,13 @@ use crate::fault::Failed;
 
 /// A sink for bytes.
 pub trait Sink {
-    /// The bytes that were written, where the sink tells them.
+    /// The bytes that were written, where they are known.
     ghost written: { Self → Option (List ℕ) };
     /// How many writes have failed.
     ghost faults: { Self → ℕ };
     /// How many writes were made.
     ghost calls: { Self → ℕ };
-    /// What a write did, as far as the sink tells: the sink before, the piece, the answer, the
+    /// What a write did, as far as it is known: the sink before, the piece, the answer, the
     /// sink after.
     ghost wrote: { Self → List ℕ → Result ℕ Failed → Self → Type 0 } = { λ _ _ _ _. ⊤ };
 

@@ -7,7 +7,7 @@ use crate::fault::Failed;
 
 /// A source of bytes.
 pub trait Source {
-    /// The bytes that are left, where the source tells them.
+    /// The bytes that are left, where they are known.
     ghost left: { Self → Option (List ℕ) };
     /// How many reads have failed.
     ghost faults: { Self → ℕ };

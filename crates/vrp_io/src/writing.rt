@@ -7,7 +7,7 @@ ghost use Rattle.vrp_io.specs.Bytes.{AppendedPrefix};
 use crate::fault::WriteFault;
 use crate::sink::Sink;
 
-/// Writes all bytes. Each write is handed all that are left. It takes no memory.
+/// Writes all bytes. Each write is given all that are left. It takes no memory.
 pub fn write_all<K: Sink>(sink: &mut K, bytes: &[u8]) -> Result<(), WriteFault>
     ensures ok { OnOk result (Appends (K.written sink.old) (K.written sink.new) bytes.now) }
     ensures prefix { AppendedPrefix (K.written sink.old) (K.written sink.new) bytes.now }

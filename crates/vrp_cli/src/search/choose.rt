@@ -31,9 +31,9 @@ struct Found {
     chosen: List<usize>,
 }
 
-/// A depth-first search through selections: lists of numbers of walks that don't fall.
+/// A depth-first search through combinations of walks, as non-decreasing lists of their numbers.
 ///
-/// `totals` has what the walks that are chosen use, visit and count.
+/// `totals` has the totals of the chosen walks.
 #[derive(Drop)]
 struct Choice {
     chosen: Vec<usize>,
@@ -159,7 +159,7 @@ fn step(
     Ok(go_back(model, walks, choice))
 }
 
-/// The best of all selections. There may be `most` paths.
+/// The best of all combinations of at most `most` walks.
 fn best_choice(
     alloc: Global,
     model: &Model,
@@ -196,9 +196,9 @@ fn plan_of(alloc: Global, walks: &List<ListedWalk>, chosen: &[usize]) -> Result<
     })
 }
 
-/// A least plan, tidy, with its cost: none exactly where the model has no solution.
+/// A plan of least cost, tidy, with its cost: none exactly where the model has no solution.
 ///
-/// The time grows with the number of feasible walks to the power of the paths that there may be.
+/// The time grows as the number of feasible walks to the power of the greatest number of paths.
 pub fn least_plan(alloc: Global, model: &Model) -> Result<Option<Best>, NoMemory>
     ensures least { IfOk result (λ found. MatchOption found (HasNoSolution model.now)
         (λ best. IsLeastPlan model.now best.cost best.plan)) }

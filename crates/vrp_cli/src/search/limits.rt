@@ -41,7 +41,7 @@ fn may_go_on(model: &Model, walk: &ListedWalk, totals: &Totals) -> bool
     rows_can_hold(model.rows.as_slice(), vars, values)
 }
 
-/// Adds what a walk uses, unless no solution has so much: then the totals stay as they were.
+/// Adds a walk, unless no solution has it beside those chosen: then the totals stay as they were.
 pub(super) fn take(model: &Model, walk: &ListedWalk, totals: &mut Totals) -> bool
     requires model { IsModel model.now }
     requires walk { IsListed model.now walk.now }

@@ -103,7 +103,7 @@ fn append(
 
 /// The feasible walks of all graphs of the model, each once.
 ///
-/// The time is that of a walk through all partial walks.
+/// The time grows with the number of partial walks.
 pub(super) fn list_all(alloc: Global, model: &Model) -> Result<List<ListedWalk>, NoMemory>
     requires model { IsModel model.now }
     ensures { IfOk result (ListsAll model.now) }

@@ -52,7 +52,7 @@ fn remove_each(totals: &mut [u64], numbers: &[u32])
     }
 }
 
-/// Adds what a walk uses, visits and counts.
+/// Adds the variables, visits and path of a walk.
 pub(super) fn add_walk(walk: &ListedWalk, totals: &mut Totals)
     requires used { HaveUsed walk.now totals.old }
     requires room { HaveRoom totals.old }
@@ -63,7 +63,7 @@ pub(super) fn add_walk(walk: &ListedWalk, totals: &mut Totals)
     add_each(totals.counts.as_mut_slice(), &[walk.graph]);
 }
 
-/// Takes back what a walk uses, visits and counts.
+/// Subtracts the variables, visits and path of a walk.
 pub(super) fn remove_walk(walk: &ListedWalk, totals: &mut Totals)
     requires used { HaveUsed walk.now totals.old }
     requires enough { HaveWalk walk.now totals.old }

@@ -141,7 +141,7 @@ fn step(alloc: Global, g: &Graph, listing: &mut Listing) -> Result<bool, NoMemor
 
 /// All feasible walks of the graph, each once.
 ///
-/// The time is that of a walk through all partial walks.
+/// The time grows with the number of partial walks.
 pub(super) fn list_walks(alloc: Global, g: &Graph) -> Result<List<List<u32>>, NoMemory>
     requires graph { IsGraph g.now }
     ensures { IfOk result (IsWalkList g.now) }
