@@ -17,3 +17,5 @@ pub mod ValidLemmas
 pub mod FallLemmas
 pub mod OpenTreeLemmas
 pub mod ListWallLemmas
+pub mod TreeTests
+mod Examples
