@@ -19,3 +19,4 @@ pub mod OpenTreeLemmas
 pub mod ListWallLemmas
 pub mod TreeTests
 mod Examples
+pub mod TableWallLemmas
