@@ -46,7 +46,7 @@ abbrev pub below_all : (ℕ → Bool) → ℕ → Bool
 below_all test zero = true
 below_all test (suc n) = also (test n) (λ u. below_all test n)
 
-below_all_decides : (test : ℕ → Bool) (P : ℕ → Type 0) (n : ℕ) → ((k : ℕ) → Decides (test k) (P k)) → Decides (below_all test n) ((k : ℕ) → k < n → P k)
+pub below_all_decides : (test : ℕ → Bool) (P : ℕ → Type 0) (n : ℕ) → ((k : ℕ) → Decides (test k) (P k)) → Decides (below_all test n) ((k : ℕ) → k < n → P k)
 below_all_decides test P zero each = (λ h k l. absurd (omega (arith, l)), λ h. refl)
 below_all_decides test P (suc n) each =
     let both = also_decides (test n) (λ u. below_all test n) (each n) (below_all_decides test P n each) in (
@@ -93,10 +93,10 @@ each_decides test P (x ∷ rest) each =
       λ h. both.1 (h x (contains_first x rest), λ l c. h l (contains_more x rest l c)),
     )
 
-abbrev Some_of : (Label → Type 0) → List Label → Type 0
+abbrev pub Some_of : (Label → Type 0) → List Label → Type 0
 Some_of P labels = (l : Label) × Contains labels l × P l
 
-some_decides : (test : Label → Bool) (P : Label → Type 0) (labels : List Label) → ((l : Label) → Decides (test l) (P l)) → Decides (some_of test labels) (Some_of P labels)
+pub some_decides : (test : Label → Bool) (P : Label → Type 0) (labels : List Label) → ((l : Label) → Decides (test l) (P l)) → Decides (some_of test labels) (Some_of P labels)
 some_decides test P [] each = (λ h. absurd (false≢true h), λ h. absurd (contains_none h.0 h.1))
 some_decides test P (x ∷ rest) each =
     let more = some_decides test P rest each in
@@ -224,7 +224,7 @@ abbrev pub at_least : Option ℤ → ℤ → Bool
 at_least None x = false
 at_least (Some least) x = le_z least x
 
-at_least_decides : (least : Option ℤ) (x : ℤ) → Decides (at_least least x) (IsAtLeast least x)
+pub at_least_decides : (least : Option ℤ) (x : ℤ) → Decides (at_least least x) (IsAtLeast least x)
 at_least_decides None x = (λ h. absurd (false≢true h), λ h. absurd h)
 at_least_decides (Some least) x = le_decides least x
 

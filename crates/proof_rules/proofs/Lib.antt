@@ -18,5 +18,6 @@ pub mod FallLemmas
 pub mod OpenTreeLemmas
 pub mod ListWallLemmas
 pub mod TreeTests
+pub mod ListTests
 mod Examples
 pub mod TableWallLemmas
