@@ -1,6 +1,6 @@
 //! The search on the models of blocks, and what is expected of it.
 
-use model_text::{LineWriter, read_model};
+use model_text::{LineWriter, print_path, read_model};
 use path_graph::NoMemory;
 use route_model::{Model, Verdict, judge};
 use std::alloc::Global;
@@ -24,7 +24,7 @@ fn optimal(alloc: Global, best: &Best) -> Result<LineWriter, NoMemory> {
     text.number(best.cost)?;
     text.end_line()?;
     for path in best.plan.paths.as_slice() {
-        text.path(path)?;
+        print_path(&mut text, path)?;
     }
     Ok(text)
 }

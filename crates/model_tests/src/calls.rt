@@ -1,6 +1,6 @@
 //! Calls that the program does not make yet, each once.
 
-use model_text::LineWriter;
+use model_text::{LineWriter, print_path, printed_text_laws};
 use path_graph::List;
 use route_model::{Plan, Taken};
 use std::alloc::Global;
@@ -25,7 +25,7 @@ fn plans_and_texts(rt: HostRuntime) -> Result<(), Fail> {
     let copy = plan.copy(rt.alloc())?;
     let mut text = LineWriter::new(rt.alloc());
     for taken in copy.paths.as_slice() {
-        text.path(taken)?;
+        print_path(&mut text, taken)?;
     }
     assert_eq!(rt; text.into_list().as_slice(), b"path 0 2 6 3\n".as_slice());
     Ok(())

@@ -129,7 +129,7 @@ end
 /// The plan of one path.
 fn lone_path(alloc: Global, graph: u32, count: u32, arcs: &[u32]) -> Result<Plan, AllocError>
     requires { count ≤ 4096 }
-    ensures { IfOk result (λ plan. IsCounted plan.paths) }
+    ensures { IfOk result (λ plan. IsCounted plan) }
 {
     let arcs = List::from_vec(Vec::from_slice(alloc, arcs)?);
     let mut paths = Vec::new(alloc);
@@ -141,7 +141,7 @@ fn lone_path(alloc: Global, graph: u32, count: u32, arcs: &[u32]) -> Result<Plan
 
 /// The plan of a graph, a count and arcs.
 fn plan_of(alloc: Global, text: &str) -> Result<Plan, Fail>
-    ensures { IfOk result (λ plan. IsCounted plan.paths) }
+    ensures { IfOk result (λ plan. IsCounted plan) }
 {
     let numbers = numbers(alloc, text)?;
     let [graph, count, arcs @ ..] = numbers.as_slice() else {

@@ -8,8 +8,8 @@ use Rattle.path_graph.specs.Free.{IsFreeCycle, HasNoFreeCycle}
 use Rattle.path_graph.specs.Parts.{GraphParts}
 use Rattle.route_model.specs.Parts.{ModelParts}
 use Rattle.route_model.specs.Fit.{ModelFits, cost_range}
-use Rattle.model_text.specs.declared.kind.Kind.TheVariants as kinds
-use Rattle.model_text.specs.declared.kind.TextFault.{TextFault}
+use Rattle.line_text.specs.declared.fault.Kind.TheVariants as kinds
+use Rattle.line_text.specs.declared.fault.TextFault.{TextFault}
 use Rattle.model_text.specs.declared.draft.Stage.{Stage}
 use Rattle.model_text.specs.declared.draft.Stage.TheVariants.{Ended}
 use Rattle.model_text.specs.declared.draft.Section.{Section}

@@ -14,7 +14,7 @@ use Rattle.model_text.specs.declared.draft.Stage.{Stage}
 use Rattle.model_text.specs.declared.draft.Stage.TheVariants.{Opening, Variables, Rows, Vertices, Ended}
 use Rattle.model_text.specs.declared.draft.Section.{Section}
 use Rattle.model_text.specs.declared.draft.Draft.{Draft}
-use Rattle.model_text.specs.Wanted.{Words}
+use Rattle.line_text.specs.Words.{Words}
 use Rattle.model_text.specs.Draft.{begun_section, with_vertex, with_arc, sections_of, graph_of}
 use Rattle.model_text.specs.ModelLines.{var_words, row_words, vertex_words, arc_words, graph_lines}
 use Rattle.model_text.specs.Spelling.{IsSetsPart}

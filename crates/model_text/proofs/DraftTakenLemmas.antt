@@ -12,7 +12,7 @@ use Rattle.model_text.specs.declared.draft.Stage.{Stage}
 use Rattle.model_text.specs.declared.draft.Stage.TheVariants.{Variables, Rows, Sets}
 use Rattle.model_text.specs.declared.draft.Draft.{Draft}
 use Rattle.model_text.specs.declared.line_kind.LineKind.TheVariants as line
-use Rattle.model_text.specs.Wanted.{Words}
+use Rattle.line_text.specs.Words.{Words}
 use Rattle.model_text.specs.Draft.{is_in_graph}
 use Rattle.model_text.specs.LineKinds.{may_stand}
 use Rattle.model_text.specs.ModelText.{side_word, term_words}

@@ -9,7 +9,7 @@ use Rattle.route_model.specs.declared.parts.Var.{Var}
 use Rattle.route_model.specs.declared.parts.RowTerm.{RowTerm}
 use Rattle.route_model.specs.declared.plan.Taken.{Taken}
 use Rattle.route_model.specs.Parts.{ModelParts}
-use Rattle.model_text.specs.Lines.{path_line}
+use Rattle.model_text.specs.PathText.{path_line}
 use Rattle.model_text.specs.ModelText.{model_text}
 
 abbrev var : ℤ → ℤ → ℤ → Var

@@ -9,9 +9,9 @@ use Rattle.path_graph.specs.Within.{IsWithin}
 use Rattle.path_graph.specs.Fit.{is_used_at, WindowFits, NeedFits}
 use Rattle.path_graph.specs.Walk.{positions}
 use Rattle.route_model.specs.Fit.{VarFits, SidesFit}
-use Rattle.model_text.specs.declared.kind.Kind.{Kind}
-use Rattle.model_text.specs.declared.kind.Kind.TheVariants as fault
-use Rattle.model_text.specs.Wanted.{Words, Wants, ◌>>=◌, ◌>>◌, and_then, give, fault_if, word, number_of_word, limited_word, number_in, natural_in, known_word, known_below, for_each, at_most, to_the_end}
+use Rattle.line_text.specs.declared.fault.Kind.{Kind}
+use Rattle.line_text.specs.declared.fault.Kind.TheVariants as fault
+use Rattle.line_text.specs.Words.{Words, Wants, ◌>>=◌, ◌>>◌, and_then, give, fault_if, word, number_of_word, limited_word, number_in, natural_in, known_word, known_below, for_each, at_most_until, to_the_end}
 use Rattle.model_text.specs.LineWords.{var_wanted, side_wanted, are_reversed, window_wanted, window_at, need_wanted, need_at}
 
 -- what is given where no fault comes
@@ -140,7 +140,10 @@ pub need_at-fits : (ends : Ends) (k : ℕ) → GivesOnly (need_at ends k) (NeedF
 need_at-fits ends k =
     at_position (λ used. NeedFits used (nat_lt k 2)) (is_used_at ends k) (need_wanted-fits k) (given (pos 0) refl)
 
--- things read one after the other to the end of the words
+-- things read one after the other to the end of the words, at most so many
+abbrev pub at_most : {A : Type 0} → ℕ → (List A → Wants A) → List A → Wants (List A)
+at_most n wanted = at_most_until n (λ _. false) wanted
+
 at_most-keeps : {A : Type 0} {I : List A → Type 0} (n : ℕ) (wanted : List A → Wants A) → ((xs : List A) → I xs → GivesOnly (wanted xs) (λ x. I (xs ++ x ∷ []))) → (xs : List A) → I xs → (words : Words) (y : List A × Words) → at_most n wanted xs words ≡ Ok y → I y.0
 at_most-keeps {I = I} zero wanted step xs i words y e = (given {P = I} xs i).each words y e
 at_most-keeps {I = I} (suc n) wanted step xs i [] y e = (given {P = I} xs i).each [] y e

@@ -6,9 +6,9 @@ use Rattle.std.specs.List.{flat_map}
 use Rattle.path_graph.specs.declared.parts.GraphArc.{GraphArc}
 use Rattle.path_graph.specs.Walk.{GraphParts}
 use Rattle.route_model.specs.Parts.{ModelParts}
-use Rattle.model_text.specs.declared.kind.Kind.{Kind}
-use Rattle.model_text.specs.declared.kind.Kind.TheVariants as fault
-use Rattle.model_text.specs.declared.kind.TextFault.{TextFault}
+use Rattle.line_text.specs.declared.fault.Kind.{Kind}
+use Rattle.line_text.specs.declared.fault.Kind.TheVariants as fault
+use Rattle.line_text.specs.declared.fault.TextFault.{TextFault}
 use Rattle.model_text.specs.declared.draft.Stage.TheVariants.{Variables}
 use Rattle.model_text.specs.declared.draft.Draft.{Draft}
 use Rattle.model_text.specs.Draft.{empty_draft, parts_of}
@@ -16,7 +16,7 @@ use Rattle.model_text.specs.LineKinds.{version_words}
 use Rattle.model_text.specs.FirstFault.{line_read, text_read}
 use Rattle.model_text.specs.FreeCycles.{HasFreeCycle}
 use Rattle.model_text.specs.ModelLines.{sets_words, model_lines}
-use Rattle.model_text.specs.Spelling.{lines_with_words, in_printed_form}
+use Rattle.line_text.specs.Spelling.{lines_with_words, in_printed_form}
 use Rattle.model_text.proofs.Examples.{two_customers, two_customers_text, two_graphs, two_graphs_text}
 
 -- two customers, each in a packing set and visited once, on at most two paths

@@ -9,9 +9,9 @@ use Rattle.path_graph.specs.declared.parts.Ends.{Ends}
 use Rattle.path_graph.specs.Fit.{is_used_at, WindowFits, NeedFits, VertexFits, ArcFits, EndsFit}
 use Rattle.path_graph.specs.Walk.{positions}
 use Rattle.route_model.specs.Fit.{MapFits, IsDeclared}
-use Rattle.model_text.specs.declared.kind.Kind.TheVariants as fault
+use Rattle.line_text.specs.declared.fault.Kind.TheVariants as fault
 use Rattle.model_text.specs.declared.draft.Section.{Section}
-use Rattle.model_text.specs.Wanted.{word}
+use Rattle.line_text.specs.Words.{word}
 use Rattle.model_text.specs.LineWords.{set_wanted, window_at, need_at, vertex_wanted, arc_wanted, graph_wanted, sets_wanted}
 use Rattle.model_text.specs.Totals.{path_total}
 use Rattle.model_text.proofs.FitLemmas.{GivesOnly, given, after, checked, anything, either, natural_in-in, known_below-below, known_word-below, for_each-all, six, window_at-fits, need_at-fits}

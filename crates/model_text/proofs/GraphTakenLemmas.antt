@@ -13,16 +13,16 @@ use Rattle.path_graph.specs.declared.parts.Ends.{Ends}
 use Rattle.path_graph.specs.Fit.{is_used_at, WindowFits, NeedFits, VertexFits, ArcFits, EndsFit, PartsFit, WindowsFit, NeedsFit}
 use Rattle.path_graph.specs.Walk.{positions, GraphParts}
 use Rattle.route_model.specs.Fit.{MapFits, IsDeclared}
-use Rattle.model_text.specs.declared.kind.Kind.TheVariants as fault
+use Rattle.line_text.specs.declared.fault.Kind.TheVariants as fault
 use Rattle.model_text.specs.declared.draft.Section.{Section}
-use Rattle.model_text.specs.Wanted.{Words, Wants, ◌>>=◌, and_then, give, known_word, for_each}
+use Rattle.line_text.specs.Words.{Words, Wants, ◌>>=◌, and_then, give, known_word, for_each}
 use Rattle.model_text.specs.LineWords.{set_wanted, window_wanted, window_at, need_wanted, need_at, vertex_wanted, arc_wanted, graph_wanted, sets_wanted}
 use Rattle.model_text.specs.ModelText.{used, set_word, window_words}
 use Rattle.model_text.specs.Totals.{path_total}
 use Rattle.model_text.proofs.FitLemmas.{AllAt}
 use Rattle.model_text.proofs.GraphFitLemmas.{IsFree}
 use Rattle.model_text.proofs.LineSpendLemmas.{words_if, used_words, need_words}
-use Rattle.model_text.proofs.NumberWordLemmas.{natural_is}
+use Rattle.line_text.proofs.NumberWordLemmas.{natural_is}
 use Rattle.model_text.proofs.TakenLemmas.{Takes, int_le_trans, at_least_test, given, and_takes, and_none, unless, by_true, by_false, with_word, known_taken, number_takes, natural_takes, known_takes, plain_word, other_word, each_taken}
 use Rattle.model_text.proofs.RowTakenLemmas.{above_test, all_mapped_take}
 

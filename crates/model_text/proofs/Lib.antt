@@ -1,7 +1,7 @@
 pub mod Examples
 pub mod LineLemmas
 pub mod GrammarExamples
-pub mod WantedLemmas
+pub mod PositionLemmas
 pub mod ReaderLemmas
 pub mod FitLemmas
 pub mod RowFitLemmas
@@ -9,10 +9,7 @@ pub mod GraphFitLemmas
 pub mod DraftFitLemmas
 pub mod LineFitLemmas
 pub mod TextFitLemmas
-pub mod NumberWordLemmas
 pub mod BuildLemmas
-pub mod PlainLineLemmas
-pub mod PrintedWordLemmas
 pub mod ItemLemmas
 pub mod PrintedRowLemmas
 pub mod PrintedGraphLemmas
@@ -34,10 +31,8 @@ pub mod SpellsLawLemmas
 pub mod ReadModelLemmas
 pub mod EndLineLemmas
 pub mod PathWordLemmas
-pub mod PathSpendLemmas
-pub mod PathTakenLemmas
-pub mod PlanReadsLemmas
-pub mod PlanSpelledLemmas
-pub mod PlanTextLemmas
+pub mod PathReads
+pub mod PlanLaws
 pub mod PathExamples
 pub mod PlanCountLemmas
+pub mod PrintedLawLemmas

@@ -10,7 +10,7 @@ use Rattle.model_text.specs.declared.draft.Section.{Section}
 use Rattle.model_text.specs.declared.draft.Draft.{Draft}
 use Rattle.model_text.specs.declared.line_kind.LineKind.{LineKind}
 use Rattle.model_text.specs.declared.line_kind.LineKind.TheVariants as line
-use Rattle.model_text.specs.Wanted.{Words, Wants, ◌>>=◌, give}
+use Rattle.line_text.specs.Words.{Words, Wants, ◌>>=◌, give}
 use Rattle.model_text.specs.Draft.{begun_section, with_vertex, with_arc, in_section, sections_of}
 use Rattle.model_text.specs.LineKinds.{kind_of, may_stand, further_wanted}
 use Rattle.model_text.specs.ModelLines.{sets_words, vertex_words, arc_words}

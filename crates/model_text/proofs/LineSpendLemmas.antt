@@ -13,14 +13,14 @@ use Rattle.route_model.specs.declared.parts.Var.{Var}
 use Rattle.route_model.specs.declared.parts.RowTerm.{RowTerm}
 use Rattle.route_model.specs.declared.parts.Row.{Row}
 use Rattle.route_model.specs.Fit.{row_coef, total_coef}
-use Rattle.model_text.specs.declared.kind.Kind.TheVariants as fault
+use Rattle.line_text.specs.declared.fault.Kind.TheVariants as fault
 use Rattle.model_text.specs.declared.draft.Section.{Section}
 use Rattle.model_text.specs.Totals.{term_total, path_total}
-use Rattle.model_text.specs.Wanted.{Words, Wants}
+use Rattle.line_text.specs.Words.{Words, Wants}
 use Rattle.model_text.specs.LineWords.{last_of, is_above, are_reversed, var_wanted, side_wanted, term_wanted, row_wanted, sets_wanted, graph_wanted, set_wanted, window_wanted, window_at, vertex_wanted, need_wanted, need_at, mapped_wanted, arc_wanted}
 use Rattle.model_text.specs.ModelText.{side_word, term_words, used, set_word, window_words}
 use Rattle.model_text.specs.ModelLines.{var_words, row_words, sets_words, vertex_words, arc_words}
-use Rattle.model_text.proofs.NumberWordLemmas.{printed_plain}
+use Rattle.line_text.proofs.NumberWordLemmas.{printed_plain}
 use Rattle.model_text.proofs.SpendLemmas.{Spends, given, after, next_is, knowing, checked, weaker, either, word_first, limited_word-spends, known_word-spends, number_in-spends, known_below-spends, natural_in-spends, words_at, for_each-spends, to_the_end-spends}
 
 pub var_wanted-spends : Spends var_wanted (λ v ws. codes "var" ∷ ws ≡ var_words v)

@@ -4,17 +4,18 @@ use Rattle.std.specs.Prelude.{All, filter, if◌then◌else◌}
 use Rattle.std.proofs.lemmas.List.{append-nil}
 use Rattle.std.proofs.lemmas.List.Elements.{All-head, All-tail}
 use Rattle.vrp_lex.specs.Text.{words_of, has_bad_byte, number_of}
-use Rattle.model_text.specs.declared.kind.Kind.TheVariants as fault
-use Rattle.model_text.specs.declared.kind.TextFault.{TextFault}
+use Rattle.line_text.specs.declared.fault.Kind.TheVariants as fault
+use Rattle.line_text.specs.declared.fault.TextFault.{TextFault}
 use Rattle.model_text.specs.declared.draft.Stage.TheVariants.{Opening, Ended}
 use Rattle.model_text.specs.declared.draft.Draft.{Draft}
 use Rattle.model_text.specs.declared.line_kind.LineKind.{LineKind}
 use Rattle.model_text.specs.declared.line_kind.LineKind.TheVariants as line
-use Rattle.model_text.specs.Wanted.{Words, are_some_words}
+use Rattle.line_text.specs.Words.{Words, are_some_words}
 use Rattle.model_text.specs.LineKinds.{kind_of, may_stand, passes_limit, further_wanted}
-use Rattle.model_text.specs.FirstFault.{all_taken, line_within, words_read, at_line, go_on, lines_read}
-use Rattle.model_text.specs.Spelling.{in_printed_form}
-use Rattle.model_text.proofs.NumberWordLemmas.{plain_is}
+use Rattle.line_text.specs.Reading.{all_taken, at_line, go_on}
+use Rattle.model_text.specs.FirstFault.{line_within, words_read, lines_read}
+use Rattle.line_text.specs.Spelling.{in_printed_form}
+use Rattle.line_text.proofs.NumberWordLemmas.{plain_is}
 use Rattle.model_text.proofs.ReaderLemmas.{words_read-within}
 use Rattle.model_text.proofs.TakenLemmas.{Takes, headed, by_true, by_false}
 

@@ -1,41 +1,48 @@
 -- Worked rows of path texts and of the end of a model, proved by computing.
 use Rattle.std.proofs.Common.{◌≡◌, ℕ, ◌-◌, List, [], ◌∷◌, ◌++◌, refl, Result, Ok, Err, map, slice_set}
-use Rattle.std.specs.Prelude.{codes}
+use Rattle.std.specs.Prelude.{codes, true}
 use Rattle.std.specs.Fmt.{digits}
 use Rattle.std.specs.List.{flat_map}
-use Rattle.route_model.specs.declared.plan.Taken.{Taken}
-use Rattle.model_text.specs.declared.kind.Kind.{Kind}
-use Rattle.model_text.specs.declared.kind.Kind.TheVariants as fault
-use Rattle.model_text.specs.declared.kind.TextFault.{TextFault}
-use Rattle.model_text.specs.Spelling.{in_printed_form, lines_with_words}
+use Rattle.route_model.specs.declared.plan.Plan.{Plan}
+use Rattle.model_text.specs.declared.path_reader.PlanDraft.{PlanDraft}
+use Rattle.line_text.specs.declared.fault.Kind.{Kind}
+use Rattle.line_text.specs.declared.fault.Kind.TheVariants as fault
+use Rattle.line_text.specs.declared.fault.TextFault.{TextFault}
+use Rattle.line_text.specs.Spelling.{in_printed_form, lines_with_words}
 use Rattle.model_text.specs.PathText.{plan_lines, plan_text}
 use Rattle.model_text.specs.PathFault.{plan_read}
 use Rattle.model_text.specs.ModelEnd.{model_end}
-use Rattle.route_model.specs.Parts.{plan_with}
 
 abbrev joined : List (List ℕ) → List ℕ
 joined lines = flat_map (λ line. line ++ 10 ∷ []) lines
 
 -- two paths of one graph, and one of another
-abbrev three_paths : List Taken
+abbrev three_paths : Plan
 three_paths =
-    record { graph = 0; count = 1; arcs = 3 ∷ 7 ∷ [] }
-    ∷ record { graph = 1; count = 2; arcs = 4294967295 ∷ [] }
-    ∷ record { graph = 0; count = 4095; arcs = 0 ∷ [] }
-    ∷ []
+    record {
+      paths =
+          record { graph = 0; count = 1; arcs = 3 ∷ 7 ∷ [] }
+          ∷ record { graph = 1; count = 2; arcs = 4294967295 ∷ [] }
+          ∷ record { graph = 0; count = 4095; arcs = 0 ∷ [] }
+          ∷ [];
+    }
+
+-- a plan that is told to its end
+abbrev whole : Plan → PlanDraft
+whole plan = record { ended = true; plan = plan }
 
 abbrev three_lines : List (List ℕ)
 three_lines = codes "path 0 1 3 7" ∷ codes "path 1 2 4294967295" ∷ codes "path 0 4095 0" ∷ codes "end" ∷ []
 
-three_paths_text : plan_text (plan_with three_paths) ≡ joined three_lines
+three_paths_text : plan_text three_paths ≡ joined three_lines
 unfolding digits
 three_paths_text = refl
 
-three_paths_words : lines_with_words (joined three_lines) ≡ plan_lines (plan_with three_paths)
+three_paths_words : lines_with_words (joined three_lines) ≡ plan_lines three_paths
 unfolding digits
 three_paths_words = refl
 
-three_paths_back : plan_read (joined three_lines) ≡ Ok three_paths
+three_paths_back : plan_read (joined three_lines) ≡ Ok (whole three_paths)
 three_paths_back = refl
 
 -- another spelling: tabs, CR, comments, leading zeros, `-0`, lines without words, no last LF
@@ -43,18 +50,18 @@ abbrev other_text : List ℕ
 other_text =
     codes " path\t-0 01 3 007 # first\r\n\n#\npath 1 02 4294967295\r\npath 0 4095 0\nend#"
 
-other_back : plan_read other_text ≡ Ok three_paths
+other_back : plan_read other_text ≡ Ok (whole three_paths)
 other_back = refl
 
-other_words : map (map in_printed_form) (lines_with_words other_text) ≡ plan_lines (plan_with three_paths)
+other_words : map (map in_printed_form) (lines_with_words other_text) ≡ plan_lines three_paths
 unfolding digits
 other_words = refl
 
 -- no path
-no_paths_back : plan_read (codes "end") ≡ Ok []
+no_paths_back : plan_read (codes "end") ≡ Ok (whole (record { paths = [] }))
 no_paths_back = refl
 
-abbrev fault_at : ℕ → Kind → Result (List Taken) TextFault
+abbrev fault_at : ℕ → Kind → Result PlanDraft TextFault
 fault_at line kind = Err (record { line = line; kind = kind })
 
 -- that text with another line in the place of the line of this number

@@ -6,12 +6,12 @@ use Rattle.std.proofs.lemmas.List.{length-map}
 use Rattle.std.proofs.lemmas.List.Elements.{All-nil, All-cons, All-tail}
 use Rattle.route_model.specs.declared.plan.Taken.{Taken}
 use Rattle.route_model.specs.declared.plan.Plan.{Plan}
+use Rattle.route_model.specs.Parts.{plan_with}
 use Rattle.route_model.specs.Verdicts.{IsCounted}
 use Rattle.vrp_lex.specs.Text.{lines_of, words_of}
-use Rattle.model_text.specs.Wanted.{Words, are_some_words}
-use Rattle.model_text.specs.Spelling.{in_printed_form, lines_with_words}
+use Rattle.line_text.specs.Words.{Words, are_some_words}
+use Rattle.line_text.specs.Spelling.{in_printed_form, lines_with_words}
 use Rattle.model_text.specs.PathText.{plan_lines, PathFits, SpellsPlan}
-use Rattle.route_model.specs.Parts.{plan_with}
 
 -- no more lines with words than lines, and no more lines than bytes
 few_with_words : (lines : List Words) → length (filter are_some_words lines) ≤ length lines

@@ -15,7 +15,7 @@ use Rattle.path_graph.specs.Within.{IsInLimits}
 use Rattle.route_model.specs.Fit.{MapFits}
 use Rattle.model_text.specs.ModelText.{used, set_word, window_words}
 use Rattle.model_text.specs.ModelLines.{graph_words, vertex_words, arc_words, graph_lines}
-use Rattle.model_text.proofs.PrintedWordLemmas.{IsPrinted, printed_name, IsPrintedLine, line_begins, two, printed_numbers}
+use Rattle.line_text.proofs.PrintedWordLemmas.{IsPrinted, printed_name, IsPrintedLine, line_begins, two, printed_numbers}
 use Rattle.model_text.proofs.PrintedRowLemmas.{printed_within, printed_small}
 use Rattle.model_text.proofs.ItemLemmas.{All-flat_map, All-zip}
 
@@ -89,7 +89,7 @@ abbrev numbers_of : GraphParts → List ℕ
 numbers_of g =
     length g.vertices ∷ g.ends.source ∷ g.ends.sink ∷ g.ends.low ∷ g.ends.high ∷ g.ends.mains ∷ g.ends.seconds ∷ []
 
-small_numbers : (g : GraphParts) → length g.vertices ≤ 1024 → EndsFit g.ends (length g.vertices) → All (λ n. n < 2 ^ 63) (numbers_of g)
+small_numbers : (g : GraphParts) → length g.vertices ≤ 1024 → EndsFit g.ends (length g.vertices) → All (λ n. n < 10 ^ 40) (numbers_of g)
 small_numbers g few fits =
     let source = fits.source in
     let sink = fits.sink in
@@ -97,7 +97,7 @@ small_numbers g few fits =
     let high = fits.most_paths in
     let mains = fits.mains in
     let seconds = fits.seconds in
-    All-from_recursion (λ n. n < 2 ^ 63) (numbers_of g)
+    All-from_recursion (λ n. n < 10 ^ 40) (numbers_of g)
     (omega arith, (omega arith, (omega arith, (omega arith, (omega arith, (omega arith, (omega arith, tt)))))))
 
 printed_graph : (g : GraphParts) → length g.vertices ≤ 1024 → EndsFit g.ends (length g.vertices) → IsPrintedLine (graph_words g)

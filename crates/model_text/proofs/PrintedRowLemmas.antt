@@ -14,7 +14,7 @@ use Rattle.route_model.specs.Fit.{VarFits, TermFits, RowFits}
 use Rattle.model_text.specs.ModelText.{side_word, term_words}
 use Rattle.model_text.specs.ModelLines.{var_words, row_words, sets_words}
 use Rattle.model_text.proofs.ItemLemmas.{All-flat_map}
-use Rattle.model_text.proofs.PrintedWordLemmas.{IsPrinted, printed_name, printed_decimal, printed_signed, IsPrintedLine, line_begins, two}
+use Rattle.line_text.proofs.PrintedWordLemmas.{IsPrinted, printed_name, printed_decimal, printed_signed, IsPrintedLine, line_begins, two}
 
 -- numbers in their limits
 mag_within : (n : ℕ) (z : ℤ) → IsWithin n z → mag z ≤ n

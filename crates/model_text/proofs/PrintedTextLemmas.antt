@@ -2,32 +2,35 @@
 use Rattle.std.proofs.Common.{◌≡◌, ℕ, ◌≤◌, ◌<◌, Bool, true, false, List, [], ◌∷◌, ◌++◌, length, map, get_or, subst, refl, ap, sym, ◌∙◌, arith, inl, inr, append-nil, append_assoc}
 use Rattle.std.specs.Prelude.{◌==◌, All, codes, if◌then◌else◌, decimal}
 use Rattle.std.specs.List.{flat_map, zip}
+use Rattle.std.specs.Fmt.{digits}
 use Rattle.std.proofs.lemmas.Bool.Decides.{nat_tests}
 use Rattle.std.proofs.lemmas.List.{get_or_default}
 use Rattle.std.proofs.lemmas.List.Folds.{flat_map-map}
-use Rattle.std.proofs.lemmas.List.Elements.{All-nil, All-cons, All-append, All-map, All-from_recursion}
+use Rattle.std.proofs.lemmas.List.Elements.{All-nil, All-cons, All-append, All-map}
 use Rattle.path_graph.specs.declared.parts.GraphArc.{GraphArc}
 use Rattle.path_graph.specs.Walk.{GraphParts}
 use Rattle.route_model.specs.Parts.{ModelParts}
 use Rattle.route_model.specs.Fit.{IsModel, MapFits, MapsFit}
 use Rattle.vrp_lex.specs.Text.{lines_of, has_bad_byte}
-use Rattle.model_text.specs.Wanted.{Words}
-use Rattle.model_text.specs.Lines.{line}
+use Rattle.line_text.specs.Words.{Words}
+use Rattle.line_text.specs.Spelling.{line}
 use Rattle.model_text.specs.LineKinds.{version_words}
 use Rattle.model_text.specs.ModelText.{sets_line, graph_line, vertex_line, arc_line, graph_text, model_text}
 use Rattle.model_text.specs.ModelLines.{var_words, row_words, sets_words, vertex_words, arc_words, graph_lines, model_lines}
-use Rattle.model_text.specs.Spelling.{lines_with_words, IsSetsPart, Spells}
-use Rattle.model_text.proofs.PlainLineLemmas.{IsPlainWord, IsPlainLine, line_of_words, text_of_lines, text_accepted, lines_with_words-text, text_of-append, text_of-flat_map}
-use Rattle.model_text.proofs.PrintedWordLemmas.{IsPrintedLine, plain_line, lines_stay, printed_end}
+use Rattle.line_text.specs.Spelling.{lines_with_words}
+use Rattle.model_text.specs.Spelling.{IsSetsPart, Spells}
+use Rattle.line_text.specs.Spelling.{line_of_words, text_of_lines}
+use Rattle.line_text.proofs.PlainLineLemmas.{IsPlainLine, text_accepted, lines_with_words-text, text_of-append, text_of-flat_map}
+use Rattle.line_text.proofs.PrintedWordLemmas.{IsPrinted, IsPrintedLine, printed_name, printed_decimal, line_begins, plain_line, lines_stay, printed_end}
 use Rattle.model_text.proofs.PrintedRowLemmas.{printed_var, printed_row, printed_sets}
 use Rattle.model_text.proofs.ItemLemmas.{All-flat_map, All-zip}
 use Rattle.model_text.proofs.PrintedGraphLemmas.{printed_graph_lines}
 
 -- the printed lines of the sets: none where there is no set
-abbrev printed_sets_part : ℕ → List Words
+abbrev pub printed_sets_part : ℕ → List Words
 printed_sets_part sets = if sets == 0 then [] else sets_words sets ∷ []
 
-abbrev printed_lines : ModelParts → List Words
+abbrev pub printed_lines : ModelParts → List Words
 printed_lines m = model_lines m (printed_sets_part m.sets)
 
 sets_part_is : (sets : ℕ) → IsSetsPart sets (printed_sets_part sets)
@@ -107,18 +110,20 @@ printed_model m is =
     (printed_graphs m is))
     (All-cons IsPrintedLine (codes "end" ∷ []) [] printed_end (All-nil IsPrintedLine))
 
-version_is_plain : IsPlainLine version_words
-version_is_plain =
-    record {
-      some = refl;
-      each = All-from_recursion IsPlainWord version_words (record { some = refl; bytes = refl }, (record { some = refl; bytes = refl }, tt));
-    }
+one_printed : IsPrinted (codes "1")
+unfolding digits
+one_printed = printed_decimal 1 (omega arith)
+
+pub printed_version : IsPrintedLine version_words
+printed_version =
+    line_begins (codes "vrpmodel") (codes "1" ∷ []) (printed_name (codes "vrpmodel") refl refl refl)
+    (All-cons IsPrinted (codes "1") [] one_printed (All-nil IsPrinted))
 
 pub printed_spells : (m : ModelParts) → IsModel m → Spells (model_text m) m
 printed_spells m is =
     let all = printed_model m is in
     let lines : List Words = printed_lines m in
-    let plain = All-cons IsPlainLine version_words lines version_is_plain (λ k d below. plain_line _ (all k d below)) in
+    let plain = All-cons IsPlainLine version_words lines (plain_line version_words printed_version) (λ k d below. plain_line _ (all k d below)) in
     record {
       accepted = subst (λ text. All (λ line. has_bad_byte line ≡ false) (lines_of text)) (model_text_is m) (text_accepted (version_words ∷ lines) plain);
       lines = lines;

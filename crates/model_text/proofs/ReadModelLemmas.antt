@@ -1,14 +1,14 @@
 -- What a reader returns says which model a text spells, or why it spells none.
 use Rattle.std.proofs.Common.{◌≡◌, ℕ, List, subst, sym, Result, Ok, Err, IfOk, IfErr, refl}
 use Rattle.route_model.specs.Parts.{ModelParts}
-use Rattle.model_text.specs.declared.kind.TextFault.{TextFault}
-use Rattle.model_text.specs.declared.kind.ReadError.{ReadError}
-use Rattle.model_text.specs.declared.kind.ReadError.TheVariants as read
+use Rattle.line_text.specs.declared.fault.TextFault.{TextFault}
+use Rattle.line_text.specs.declared.fault.ReadError.{ReadError}
+use Rattle.line_text.specs.declared.fault.ReadError.TheVariants as read
 use Rattle.model_text.specs.declared.draft.Draft.{Draft}
 use Rattle.model_text.specs.FirstFault.{text_read, IsModelOf, IsFaultOf}
 use Rattle.model_text.specs.Spelling.{Spells}
 use Rattle.model_text.specs.Refusal.{IsRefusal, IsLateRefusal}
-use Rattle.model_text.specs.Gives.{FailsText}
+use Rattle.line_text.specs.Gives.{FailsText}
 use Rattle.model_text.proofs.ReadsSpelledLemmas.{reads_spelled}
 use Rattle.model_text.proofs.SpellsLawLemmas.{spells_one, fault_spells_nothing}
 

@@ -8,20 +8,22 @@ use Rattle.std.proofs.lemmas.List.Elements.{All-nil, All-cons}
 use Rattle.route_model.specs.Parts.{ModelParts}
 use Rattle.route_model.specs.Fit.{IsModel}
 use Rattle.vrp_lex.specs.Text.{lines_of, words_of, has_bad_byte}
-use Rattle.model_text.specs.declared.kind.Kind.{Kind}
-use Rattle.model_text.specs.declared.kind.Kind.TheVariants as fault
-use Rattle.model_text.specs.declared.kind.TextFault.{TextFault}
+use Rattle.line_text.specs.declared.fault.Kind.{Kind}
+use Rattle.line_text.specs.declared.fault.Kind.TheVariants as fault
+use Rattle.line_text.specs.declared.fault.TextFault.{TextFault}
 use Rattle.model_text.specs.declared.draft.Stage.{Stage}
 use Rattle.model_text.specs.declared.draft.Stage.TheVariants.{Opening, Variables, Rows, Sets, Vertices, Arcs, Ended}
 use Rattle.model_text.specs.declared.draft.Draft.{Draft}
 use Rattle.model_text.specs.declared.line_kind.LineKind.{LineKind}
 use Rattle.model_text.specs.declared.line_kind.LineKind.TheVariants as line
-use Rattle.model_text.specs.Wanted.{Words, are_some_words}
+use Rattle.line_text.specs.Words.{Words, are_some_words}
 use Rattle.model_text.specs.Draft.{empty_draft, parts_of}
 use Rattle.model_text.specs.LineKinds.{version_words, kind_of, may_stand, passes_limit, further_wanted}
-use Rattle.model_text.specs.FirstFault.{all_taken, line_of_kind, line_within, words_read, line_read, lines_read, text_read, IsModelOf, ReadsAs}
+use Rattle.line_text.specs.Reading.{all_taken}
+use Rattle.model_text.specs.FirstFault.{line_of_kind, line_within, words_read, line_read, lines_read, text_read, IsModelOf, ReadsAs}
 use Rattle.model_text.specs.ModelLines.{model_lines}
-use Rattle.model_text.specs.Spelling.{in_printed_form, Spells}
+use Rattle.line_text.specs.Spelling.{in_printed_form}
+use Rattle.model_text.specs.Spelling.{Spells}
 use Rattle.model_text.proofs.DraftFitLemmas.{DraftFits}
 use Rattle.model_text.proofs.LineFitLemmas.{at}
 use Rattle.model_text.proofs.TextFitLemmas.{taken, then_arm, else_arm, next_of, line_read-fits, after_lines, empty_fits, text_read-fits, reads_model}

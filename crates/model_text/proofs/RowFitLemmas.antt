@@ -11,9 +11,9 @@ use Rattle.route_model.specs.declared.parts.Var.{Var}
 use Rattle.route_model.specs.declared.parts.RowTerm.{RowTerm}
 use Rattle.route_model.specs.declared.parts.Row.{Row}
 use Rattle.route_model.specs.Fit.{Ascends, TermFits, RowFits, MapFits, row_coef, total_coef}
-use Rattle.model_text.specs.declared.kind.Kind.TheVariants as fault
+use Rattle.line_text.specs.declared.fault.Kind.TheVariants as fault
 use Rattle.model_text.specs.LineWords.{last_of, is_above, are_reversed, term_wanted, row_wanted, mapped_wanted}
-use Rattle.model_text.specs.Wanted.{to_the_end}
+use Rattle.line_text.specs.Words.{to_the_end}
 use Rattle.model_text.specs.Totals.{term_total}
 use Rattle.model_text.proofs.FitLemmas.{GivesOnly, given, after, checked, known_below-below, number_in-in, to_the_end-keeps, side_wanted-fits, sides_fit}
 

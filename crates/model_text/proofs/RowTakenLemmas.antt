@@ -15,12 +15,12 @@ use Rattle.route_model.specs.declared.parts.Var.{Var}
 use Rattle.route_model.specs.declared.parts.RowTerm.{RowTerm}
 use Rattle.route_model.specs.declared.parts.Row.{Row}
 use Rattle.route_model.specs.Fit.{Ascends, VarFits, TermFits, SidesFit, RowFits, RowsFit, MapFits, row_coef, total_coef}
-use Rattle.model_text.specs.declared.kind.Kind.TheVariants as fault
-use Rattle.model_text.specs.Wanted.{Words, Wants, ◌>>=◌, and_then, limited_word, give, to_the_end}
+use Rattle.line_text.specs.declared.fault.Kind.TheVariants as fault
+use Rattle.line_text.specs.Words.{Words, Wants, ◌>>=◌, and_then, limited_word, give, to_the_end}
 use Rattle.model_text.specs.LineWords.{var_wanted, side_wanted, last_of, is_above, are_reversed, term_wanted, row_wanted, mapped_wanted}
 use Rattle.model_text.specs.ModelText.{side_word, term_words}
 use Rattle.model_text.specs.Totals.{term_total}
-use Rattle.model_text.proofs.NumberWordLemmas.{number_is}
+use Rattle.line_text.proofs.NumberWordLemmas.{number_is}
 use Rattle.model_text.proofs.TakenLemmas.{Takes, int_le_trans, at_least_test, given, and_takes, and_none, unless, by_true, by_false, with_word, small_number, limited_taken, number_takes, known_takes, plain_word, other_word, items_taken}
 
 pub var_takes : (v : Var) (left : Words) → VarFits v → Takes var_wanted (signed_decimal v.low ∷ signed_decimal v.high ∷ signed_decimal v.cost ∷ []) v left

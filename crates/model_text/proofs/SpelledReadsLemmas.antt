@@ -11,18 +11,20 @@ use Rattle.route_model.specs.declared.parts.Row.{Row}
 use Rattle.route_model.specs.Parts.{ModelParts, graph_in, maps_in}
 use Rattle.route_model.specs.Fit.{ModelFits, GraphFits, GraphMapsFit}
 use Rattle.vrp_lex.specs.Text.{lines_of}
-use Rattle.model_text.specs.declared.kind.TextFault.{TextFault}
+use Rattle.line_text.specs.declared.fault.TextFault.{TextFault}
 use Rattle.model_text.specs.declared.draft.Stage.TheVariants.{Variables, Ended}
 use Rattle.model_text.specs.declared.draft.Section.{Section}
 use Rattle.model_text.specs.declared.draft.Draft.{Draft}
 use Rattle.model_text.specs.declared.line_kind.LineKind.TheVariants as line
-use Rattle.model_text.specs.Wanted.{Words}
+use Rattle.line_text.specs.Words.{Words}
 use Rattle.model_text.specs.Draft.{empty_draft, no_section, is_in_graph, sections_of, graph_of, parts_of}
 use Rattle.model_text.specs.LineKinds.{version_words, may_stand}
 use Rattle.model_text.specs.ModelLines.{var_words, row_words, graph_lines, model_lines}
 use Rattle.model_text.specs.FreeCycles.{HasFreeCycle}
-use Rattle.model_text.specs.FirstFault.{at_line, go_on, lines_read, end_wanted, text_read, IsModelOf, ReadsAs}
-use Rattle.model_text.specs.Spelling.{in_printed_form, Spells, IsSetsPart}
+use Rattle.line_text.specs.Reading.{at_line, go_on}
+use Rattle.model_text.specs.FirstFault.{lines_read, end_wanted, text_read, IsModelOf, ReadsAs}
+use Rattle.line_text.specs.Spelling.{in_printed_form}
+use Rattle.model_text.specs.Spelling.{Spells, IsSetsPart}
 use Rattle.model_text.proofs.ItemLemmas.{All-zip}
 use Rattle.model_text.proofs.TextFitLemmas.{sum_by-map}
 use Rattle.model_text.proofs.TakenLemmas.{given, headed, no_items, by_false}

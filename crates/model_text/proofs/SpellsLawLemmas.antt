@@ -3,9 +3,9 @@ use Rattle.std.proofs.Common.{◌≡◌, ℕ, ◌^◌, ◌≤◌, ◌<◌, List,
 use Rattle.std.specs.Prelude.{Any}
 use Rattle.route_model.specs.Parts.{ModelParts}
 use Rattle.route_model.specs.Fit.{cost_range}
-use Rattle.model_text.specs.declared.kind.Kind.{Kind}
-use Rattle.model_text.specs.declared.kind.Kind.TheVariants as kinds
-use Rattle.model_text.specs.declared.kind.TextFault.{TextFault}
+use Rattle.line_text.specs.declared.fault.Kind.{Kind}
+use Rattle.line_text.specs.declared.fault.Kind.TheVariants as kinds
+use Rattle.line_text.specs.declared.fault.TextFault.{TextFault}
 use Rattle.model_text.specs.declared.draft.Draft.{Draft}
 use Rattle.model_text.specs.Draft.{parts_of}
 use Rattle.model_text.specs.FreeCycles.{HasFreeCycle}

@@ -7,12 +7,12 @@ use Rattle.std.proofs.lemmas.Bool.Decides.{nat_tests}
 use Rattle.std.proofs.lemmas.List.{map-append}
 use Rattle.std.proofs.lemmas.List.Concat.{flat_map-append}
 use Rattle.vrp_lex.specs.Text.{number_of}
-use Rattle.model_text.specs.declared.kind.Kind.{Kind}
-use Rattle.model_text.specs.declared.kind.Kind.TheVariants as fault
-use Rattle.model_text.specs.Wanted.{Words, Wants, ◌>>=◌, ◌>>◌, and_then, give, fault_if, word, number_of_word, limited_word, number_in, natural_in, known_word, known_below, for_each, at_most, to_the_end}
-use Rattle.model_text.specs.Spelling.{in_printed_form}
-use Rattle.model_text.proofs.NumberWordLemmas.{printed_is}
-use Rattle.model_text.proofs.FitLemmas.{GivesOnly, IsIn, or_false, number_in-in}
+use Rattle.line_text.specs.declared.fault.Kind.{Kind}
+use Rattle.line_text.specs.declared.fault.Kind.TheVariants as fault
+use Rattle.line_text.specs.Words.{Words, Wants, ◌>>=◌, ◌>>◌, and_then, give, fault_if, word, number_of_word, limited_word, number_in, natural_in, known_word, known_below, for_each, to_the_end}
+use Rattle.line_text.specs.Spelling.{in_printed_form}
+use Rattle.line_text.proofs.NumberWordLemmas.{printed_is}
+use Rattle.model_text.proofs.FitLemmas.{GivesOnly, IsIn, or_false, number_in-in, at_most}
 
 -- the words in front of those that are left
 abbrev pub Spent : {A : Type 0} → (A → Words → Type 0) → Words → A × Words → Type 0

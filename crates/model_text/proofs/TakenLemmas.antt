@@ -8,13 +8,13 @@ use Rattle.std.proofs.lemmas.Bool.Decides.{nat_tests}
 use Rattle.std.proofs.lemmas.List.{append-nil, length-append, length-map}
 use Rattle.std.proofs.lemmas.Slice.Eq.{bytes_eq-Decides}
 use Rattle.vrp_lex.specs.Text.{number_of}
-use Rattle.model_text.specs.declared.kind.Kind.{Kind}
-use Rattle.model_text.specs.declared.kind.Kind.TheVariants as fault
-use Rattle.model_text.specs.Wanted.{Words, Wants, ◌>>=◌, ◌>>◌, and_then, give, fault_if, word, number_of_word, limited_word, number_in, natural_in, known_word, known_below, for_each, at_most, to_the_end}
-use Rattle.model_text.specs.Spelling.{in_printed_form}
-use Rattle.model_text.proofs.FitLemmas.{AllAt}
+use Rattle.line_text.specs.declared.fault.Kind.{Kind}
+use Rattle.line_text.specs.declared.fault.Kind.TheVariants as fault
+use Rattle.line_text.specs.Words.{Words, Wants, ◌>>=◌, ◌>>◌, and_then, give, fault_if, word, number_of_word, limited_word, number_in, natural_in, known_word, known_below, for_each, to_the_end}
+use Rattle.line_text.specs.Spelling.{in_printed_form}
+use Rattle.model_text.proofs.FitLemmas.{AllAt, at_most}
 use Rattle.model_text.proofs.SpendLemmas.{words_at}
-use Rattle.model_text.proofs.NumberWordLemmas.{number_is, natural_is, plain_is}
+use Rattle.line_text.proofs.NumberWordLemmas.{number_is, natural_is, plain_is}
 
 -- a list whose image begins with an item
 pub record Headed {X Y : Type 0} (view : X → Y) (xs : List X) (y : Y) (ys : List Y) : Type 0 where
@@ -120,13 +120,13 @@ limited_taken low high w z left l h e =
     ∙ ap (λ b. (fault_if fault.Range b >> give z) left) none
 
 -- numbers of all lines are small
-pub small_number : (low high z : ℤ) → int_lt low (neg_ℤ (pos 1000000000000)) ≡ false → int_lt (pos 1000000000000) high ≡ false → low ≤ℤ z → z ≤ℤ high → unsigned_abs z < 10 ^ 18
+pub small_number : (low high z : ℤ) → int_lt low (neg_ℤ (pos 1000000000000)) ≡ false → int_lt (pos 1000000000000) high ≡ false → low ≤ℤ z → z ≤ℤ high → unsigned_abs z < 10 ^ 40
 small_number low high z wide wide_too l h =
     let at_least : (neg_ℤ (pos 1000000000000)) ≤ℤ z = grind (arith, nat_tests, wide, l) in
     let at_most : z ≤ℤ pos 1000000000000 = grind (arith, nat_tests, wide_too, h) in
     within z at_least at_most
   where
-    within : (z : ℤ) → (neg_ℤ (pos 1000000000000)) ≤ℤ z → z ≤ℤ pos 1000000000000 → unsigned_abs z < 10 ^ 18
+    within : (z : ℤ) → (neg_ℤ (pos 1000000000000)) ≤ℤ z → z ≤ℤ pos 1000000000000 → unsigned_abs z < 10 ^ 40
     within (pos n) l h = grind (arith, h)
     within (negsuc n) l h = grind (arith, l)
 
@@ -154,7 +154,7 @@ known_taken count w n left h e =
 
 pub known_takes : (count n : ℕ) → count ≤ 1000000 → n < count → (left : Words) → Takes (known_below count) (decimal n ∷ []) n left
 known_takes count n few h left =
-    let small : n < 10 ^ 18 = omega (arith, few, h) in
+    let small : n < 10 ^ 40 = omega (arith, few, h) in
     with_word (λ w e. known_taken count w n left h (natural_is w n small e))
 
 -- a word that is no number, and one that is a number and so another word

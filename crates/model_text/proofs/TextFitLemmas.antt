@@ -9,18 +9,19 @@ use Rattle.path_graph.specs.Walk.{GraphParts}
 use Rattle.route_model.specs.Parts.{ModelParts}
 use Rattle.route_model.specs.Fit.{VarFits, ModelFits, IsModel, GraphFits}
 use Rattle.vrp_lex.specs.Text.{words_of, has_bad_byte, lines_of}
-use Rattle.model_text.specs.declared.kind.Kind.{Kind}
-use Rattle.model_text.specs.declared.kind.Kind.TheVariants as fault
-use Rattle.model_text.specs.declared.kind.TextFault.{TextFault}
+use Rattle.line_text.specs.declared.fault.Kind.{Kind}
+use Rattle.line_text.specs.declared.fault.Kind.TheVariants as fault
+use Rattle.line_text.specs.declared.fault.TextFault.{TextFault}
 use Rattle.model_text.specs.declared.draft.Stage.{Stage}
 use Rattle.model_text.specs.declared.draft.Stage.TheVariants.{Opening, Variables, Rows, Sets, Vertices, Arcs, Ended}
 use Rattle.model_text.specs.declared.draft.Section.{Section}
 use Rattle.model_text.specs.declared.draft.Draft.{Draft}
 use Rattle.model_text.specs.declared.line_kind.LineKind.{LineKind}
-use Rattle.model_text.specs.Wanted.{Words}
+use Rattle.line_text.specs.Words.{Words}
 use Rattle.model_text.specs.Draft.{empty_draft, graph_of, parts_of}
 use Rattle.model_text.specs.LineKinds.{version_words, kind_of, may_stand, passes_limit, further_wanted}
-use Rattle.model_text.specs.FirstFault.{all_taken, line_of_kind, line_within, words_read, line_read, at_line, go_on, lines_read, is_ended, end_wanted, text_read, IsModelOf, ReadsAs}
+use Rattle.line_text.specs.Reading.{all_taken, at_line, go_on}
+use Rattle.model_text.specs.FirstFault.{line_of_kind, line_within, words_read, line_read, lines_read, is_ended, end_wanted, text_read, IsModelOf, ReadsAs}
 use Rattle.path_graph.specs.Free.{HasNoFreeCycle}
 use Rattle.model_text.specs.FreeCycles.{HasFreeCycle}
 use Rattle.model_text.specs.Totals.{path_total, arc_total}

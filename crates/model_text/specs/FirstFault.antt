@@ -5,10 +5,11 @@ use Rattle.std.specs.Str.{bytes_eq}
 use Rattle.route_model.specs.Parts.{ModelParts}
 use Rattle.route_model.specs.Fit.{cost_range}
 use Rattle.vrp_lex.specs.Text.{lines_of, words_of, has_bad_byte}
-use Rattle.model_text.specs.declared.kind.Kind.{Kind}
-use Rattle.model_text.specs.declared.kind.Kind.TheVariants as fault
-use Rattle.model_text.specs.declared.kind.TextFault.{TextFault}
-use Rattle.model_text.specs.Wanted.{Words}
+use Rattle.line_text.specs.declared.fault.Kind.{Kind}
+use Rattle.line_text.specs.declared.fault.Kind.TheVariants as fault
+use Rattle.line_text.specs.declared.fault.TextFault.{TextFault}
+use Rattle.line_text.specs.Words.{Words}
+use Rattle.line_text.specs.Reading.{all_taken, at_line, go_on}
 use Rattle.model_text.specs.declared.draft.Stage.{Stage}
 use Rattle.model_text.specs.declared.draft.Stage.TheVariants.{Opening, Variables, Ended}
 use Rattle.model_text.specs.declared.draft.Draft.{Draft}
@@ -16,12 +17,6 @@ use Rattle.model_text.specs.declared.line_kind.LineKind.{LineKind}
 use Rattle.model_text.specs.Draft.{empty_draft, parts_of}
 use Rattle.model_text.specs.LineKinds.{version_words, kind_of, may_stand, passes_limit, further_wanted}
 use Rattle.model_text.specs.FreeCycles.{HasFreeCycle}
-
--- no word is left; a word too many is Word
-abbrev pub all_taken : {A : Type 0} → Result (A × Words) Kind → Result A Kind
-all_taken (Err kind) = Err kind
-all_taken (Ok (x, [])) = Ok x
-all_taken (Ok (x, w ∷ words)) = Err fault.Word
 
 -- a line of a kind: whether it may stand here, then whether there are too many, then its further words, then a word too many
 abbrev pub line_of_kind : Draft → ℕ → Words → LineKind → Result Draft Kind
@@ -47,15 +42,6 @@ words_read d _ number (first ∷ words) = line_within d number words (kind_of fi
 abbrev pub line_read : Draft → ℕ → List ℕ → Result Draft Kind
 line_read d number line =
     if has_bad_byte line then Err fault.Byte else words_read d d.stage number (words_of line)
-
--- a fault in a line has the number of the line
-abbrev pub at_line : {A : Type 0} → ℕ → Result A Kind → Result A TextFault
-at_line number (Ok x) = Ok x
-at_line number (Err kind) = Err (record { line = number; kind = kind })
-
-abbrev pub go_on : {A B : Type 0} → Result A TextFault → (A → Result B TextFault) → Result B TextFault
-go_on (Ok x) next = next x
-go_on (Err fault) next = Err fault
 
 -- the lines from this number on: the first fault is that of the first faulty line
 abbrev pub lines_read : Draft → ℕ → List (List ℕ) → Result Draft TextFault

@@ -1,8 +1,4 @@
-pub mod Lines
 pub mod ModelText
-pub mod Kinds
-pub mod Wanted
-pub mod Gives
 pub mod Draft
 pub mod FreeCycles
 pub mod Totals
@@ -16,4 +12,5 @@ pub mod PathFault
 pub mod PathCounts
 pub mod ModelEnd
 pub mod Refusal
-pub mod Built
+pub mod ModelBuild
+pub mod PrintedText

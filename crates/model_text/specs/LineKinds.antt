@@ -6,7 +6,9 @@ use Rattle.model_text.specs.declared.draft.Stage.TheVariants.{Variables, Rows, S
 use Rattle.model_text.specs.declared.draft.Draft.{Draft}
 use Rattle.model_text.specs.declared.line_kind.LineKind.{LineKind}
 use Rattle.model_text.specs.declared.line_kind.LineKind.TheVariants as line
-use Rattle.model_text.specs.Wanted.{Words, Wants, ◌>>=◌, give}
+use Rattle.path_graph.specs.declared.limits.TheConstants.{MAX_ARCS}
+use Rattle.route_model.specs.declared.limits.TheConstants.{MAX_VARS, MAX_ROWS, MAX_GRAPHS, MAX_ALL_ARCS}
+use Rattle.line_text.specs.Words.{Words, Wants, ◌>>=◌, give}
 use Rattle.model_text.specs.Draft.{no_section, begun_section, with_vertex, with_arc, in_section, sections_of}
 use Rattle.model_text.specs.LineWords.{var_wanted, row_wanted, sets_wanted, graph_wanted, vertex_wanted, arc_wanted}
 
@@ -46,14 +48,14 @@ may_stand line.End Sets = true
 may_stand line.End Arcs = true
 may_stand _ _ = false
 
--- One more line of the kind passes a limit: 30,000 variables, 5,000 rows, 64 graphs, 60,000 arcs of a graph, 100,000 of all.
+-- One more line of the kind passes a limit: of variables, of rows, of graphs, of the arcs of a graph, of all arcs.
 abbrev pub passes_limit : LineKind → Draft → Bool
-passes_limit line.Var d = not (nat_lt (length d.vars) 30000)
-passes_limit line.Row d = not (nat_lt (length d.rows) 5000)
-passes_limit line.Graph d = not (nat_lt (length (sections_of d)) 64)
+passes_limit line.Var d = not (nat_lt (length d.vars) MAX_VARS)
+passes_limit line.Row d = not (nat_lt (length d.rows) MAX_ROWS)
+passes_limit line.Graph d = not (nat_lt (length (sections_of d)) MAX_GRAPHS)
 passes_limit line.Arc d =
-    not (nat_lt (length d.current.arcs) 60000)
-    || not (nat_lt (sum_by (λ s. length s.arcs) (sections_of d)) 100000)
+    not (nat_lt (length d.current.arcs) MAX_ARCS)
+    || not (nat_lt (sum_by (λ s. length s.arcs) (sections_of d)) MAX_ALL_ARCS)
 passes_limit _ d = false
 
 -- the further words of a line of each kind, and what the lines tell with it; no version line stands behind the first

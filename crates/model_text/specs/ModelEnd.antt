@@ -3,7 +3,7 @@ use Rattle.std.specs.Prelude.{ℕ, ◌+◌, min, List, [], ◌∷◌, length, ta
 use Rattle.std.specs.List.{position_or_len}
 use Rattle.std.specs.Str.{bytes_eq}
 use Rattle.vrp_lex.specs.Text.{lines_of, words_of}
-use Rattle.model_text.specs.Wanted.{Words}
+use Rattle.line_text.specs.Words.{Words}
 
 abbrev pub begins_with_end : Words → Bool
 begins_with_end [] = false

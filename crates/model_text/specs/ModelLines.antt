@@ -10,7 +10,7 @@ use Rattle.route_model.specs.declared.parts.Var.{Var}
 use Rattle.route_model.specs.declared.parts.Row.{Row}
 use Rattle.route_model.specs.Parts.{ModelParts}
 use Rattle.model_text.specs.ModelText.{side_word, term_words, used, set_word, window_words}
-use Rattle.model_text.specs.Wanted.{Words}
+use Rattle.line_text.specs.Words.{Words}
 
 abbrev pub var_words : Var → Words
 var_words v = codes "var" ∷ signed_decimal v.low ∷ signed_decimal v.high ∷ signed_decimal v.cost ∷ []

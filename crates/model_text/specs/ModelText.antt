@@ -11,7 +11,7 @@ use Rattle.route_model.specs.declared.parts.Var.{Var}
 use Rattle.route_model.specs.declared.parts.RowTerm.{RowTerm}
 use Rattle.route_model.specs.declared.parts.Row.{Row}
 use Rattle.route_model.specs.Parts.{ModelParts}
-use Rattle.model_text.specs.Lines.{line}
+use Rattle.line_text.specs.Spelling.{line}
 
 -- `var LOW HIGH COST`
 abbrev pub var_line : Var → List ℕ

@@ -1,18 +1,17 @@
--- The first fault of a path text.
-use Rattle.std.specs.Prelude.{◌≡◌, ℕ, ◌+◌, List, [], ◌∷◌, ◌++◌, codes, Bool, true, false, ◌==◌, nat_lt, if◌then◌else◌, count_by, Result, Ok, Err}
-use Rattle.std.specs.Str.{bytes_eq}
+-- The grammar of path texts, and the first fault of a path text.
+use Rattle.std.specs.Prelude.{◌≡◌, ℕ, ◌+◌, List, [], ◌∷◌, ◌++◌, codes, true, false, nat_lt, Result, Err}
 use Rattle.route_model.specs.declared.plan.Taken.{Taken}
+use Rattle.route_model.specs.declared.plan.Plan.{Plan}
+use Rattle.path_graph.specs.declared.limits.TheConstants.{MAX_PATHS}
 use Rattle.route_model.specs.Parts.{plan_with}
 use Rattle.route_model.specs.Quantities.{paths_of}
-use Rattle.vrp_lex.specs.Text.{lines_of, words_of, has_bad_byte}
-use Rattle.model_text.specs.declared.kind.Kind.{Kind}
-use Rattle.model_text.specs.declared.kind.Kind.TheVariants as fault
-use Rattle.model_text.specs.declared.kind.TextFault.{TextFault}
-use Rattle.model_text.specs.declared.kind.ReadError.{ReadError}
-use Rattle.model_text.specs.declared.kind.ReadError.TheVariants as read
-use Rattle.model_text.specs.declared.plan_draft.PlanDraft.{PlanDraft}
-use Rattle.model_text.specs.Wanted.{Words, Wants, ◌>>=◌, ◌>>◌, give, fault_if, natural_in, to_the_end}
-use Rattle.model_text.specs.FirstFault.{all_taken, at_line, go_on}
+use Rattle.line_text.specs.declared.fault.Kind.TheVariants as fault
+use Rattle.line_text.specs.declared.fault.TextFault.{TextFault}
+use Rattle.line_text.specs.declared.fault.ReadError.{ReadError}
+use Rattle.line_text.specs.declared.fault.ReadError.TheVariants as read
+use Rattle.line_text.specs.Words.{Wants, ◌>>=◌, ◌>>◌, give, fault_if, natural_in, to_the_end, is_none}
+use Rattle.line_text.specs.Reading.{Reading, Rule, Grammar, by_first_word, reading_of, text_read}
+use Rattle.model_text.specs.declared.path_reader.PlanDraft.{PlanDraft}
 use Rattle.model_text.specs.PathText.{SpellsNoPlan}
 
 -- the number of a graph or an arc, known or not
@@ -22,60 +21,59 @@ name_wanted = natural_in 0 4294967295
 -- one arc or more
 abbrev pub arcs_wanted : Wants (List ℕ)
 arcs_wanted = do
-  first ← name_wanted
-  others ← to_the_end (λ _. name_wanted)
-  give (first ∷ others)
+  arcs ← to_the_end (λ _. name_wanted)
+  fault_if fault.Word (is_none arcs)
+  give arcs
 
--- `path GRAPH COUNT ARC ..`, after the paths before; the counts of each graph sum to at most 4,096
-abbrev pub path_wanted : List Taken → Wants Taken
-path_wanted paths = do
+-- `path GRAPH COUNT ARC ..`, after the plan so far; the counts of each graph sum to at most MAX_PATHS
+abbrev pub path_wanted : Plan → Wants Taken
+path_wanted plan = do
   graph ← name_wanted
-  count ← natural_in 1 4096
-  fault_if fault.TooMany (nat_lt 4096 (paths_of (plan_with paths) graph + count))
+  count ← natural_in 1 MAX_PATHS
+  fault_if fault.TooMany (nat_lt MAX_PATHS (paths_of plan graph + count))
   arcs ← arcs_wanted
   give (record { graph = graph; count = count; arcs = arcs })
 
--- nothing is read
-abbrev pub empty_plan : PlanDraft
-empty_plan = record { ended = false; paths = [] }
+-- the lines of a path text
+pub data PathItem : Type 0 where
+  Path : Taken → PathItem
+  End : PathItem
+
+abbrev pub path_rule : Rule PlanDraft PathItem
+path_rule =
+    record {
+      name = codes "path";
+      stands = λ _. true;
+      full = λ _. false;
+      further = λ d. path_wanted d.plan >>= (λ path. give (Path path));
+    }
+
+abbrev pub end_rule : Rule PlanDraft PathItem
+end_rule = record { name = codes "end"; stands = λ _. true; full = λ _. false; further = λ _. give End }
 
 -- the plan with one more path
-abbrev pub with_path : PlanDraft → Wants PlanDraft
-with_path d = do
-  path ← path_wanted d.paths
-  give (record d { paths = d.paths ++ path ∷ [] })
+abbrev pub with_path : Plan → Taken → Plan
+with_path plan path = plan_with (plan.paths ++ path ∷ [])
 
--- what is wanted behind the first word
-abbrev pub path_or_end : PlanDraft → List ℕ → Words → Result PlanDraft Kind
-path_or_end d first words =
-    if bytes_eq first (codes "path") then all_taken (with_path d words) else
-    (if bytes_eq first (codes "end") then all_taken (give (record d { ended = true }) words) else Err fault.Word)
+abbrev pub put : PlanDraft → PathItem → PlanDraft
+put d (Path path) = record d { plan = with_path d.plan path }
+put d End = record d { ended = true }
 
--- the words of a line; a line without words is skipped, and none has words behind the end
-abbrev pub plan_words_read : PlanDraft → Bool → Words → Result PlanDraft Kind
-plan_words_read d ended [] = Ok d
-plan_words_read d true (first ∷ words) = Err fault.AfterEnd
-plan_words_read d false (first ∷ words) = path_or_end d first words
+abbrev pub path_grammar : Grammar PlanDraft PathItem
+path_grammar =
+    record {
+      empty = record { ended = false; plan = plan_with [] };
+      is_ended = λ d. d.ended;
+      item = by_first_word (path_rule ∷ end_rule ∷ []);
+      put = λ d number item. put d item;
+    }
 
--- a line: bytes that are not accepted come first
-abbrev pub plan_line_read : PlanDraft → List ℕ → Result PlanDraft Kind
-plan_line_read d line = if has_bad_byte line then Err fault.Byte else plan_words_read d d.ended (words_of line)
+abbrev pub path_reading : Reading PlanDraft
+path_reading = reading_of path_grammar
 
--- the lines from this number on: the first fault is that of the first faulty line
-abbrev pub plan_lines_read : PlanDraft → ℕ → List (List ℕ) → Result PlanDraft TextFault
-plan_lines_read d number [] = Ok d
-plan_lines_read d number (line ∷ lines) =
-    go_on (at_line number (plan_line_read d line)) (λ next. plan_lines_read next (number + 1) lines)
-
--- the end is missing, after all faults of lines; its line is 1 plus the number of LF bytes
-abbrev pub plan_ended : List ℕ → PlanDraft → Result (List Taken) TextFault
-plan_ended text d =
-    if d.ended then Ok d.paths
-    else Err (record { line = 1 + count_by (λ b. b == 10) text; kind = fault.EndMissing })
-
--- the paths of a text, or its first fault
-abbrev pub plan_read : List ℕ → Result (List Taken) TextFault
-plan_read text = go_on (plan_lines_read empty_plan 1 (lines_of text)) (plan_ended text)
+-- what a path text tells, or its first fault
+abbrev pub plan_read : List ℕ → Result PlanDraft TextFault
+plan_read text = text_read path_reading text
 
 abbrev pub IsFirstPathFault : List ℕ → TextFault → Type 0
 IsFirstPathFault text fault = plan_read text ≡ Err fault

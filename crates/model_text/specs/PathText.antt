@@ -1,16 +1,18 @@
 -- Path texts: the words of their lines, the printed text of a plan, and which texts spell which plan.
 use Rattle.std.specs.Prelude.{◌≡◌, ◌≢◌, ℕ, ◌≤◌, List, [], ◌∷◌, ◌++◌, decimal, map, codes, All, false}
 use Rattle.std.specs.List.{flat_map}
-use Rattle.path_graph.specs.declared.limits.TheConstants.{MAX_PATHS}
 use Rattle.route_model.specs.declared.plan.Taken.{Taken}
 use Rattle.route_model.specs.declared.plan.Plan.{Plan}
+use Rattle.path_graph.specs.declared.limits.TheConstants.{MAX_PATHS}
 use Rattle.route_model.specs.Tidy.{AreFew}
 use Rattle.vrp_lex.specs.Text.{lines_of, has_bad_byte}
-use Rattle.model_text.specs.Lines.{line, path_line}
-use Rattle.model_text.specs.Wanted.{Words}
-use Rattle.model_text.specs.Spelling.{in_printed_form, lines_with_words}
+use Rattle.line_text.specs.Words.{Words}
+use Rattle.line_text.specs.Spelling.{line, in_printed_form, lines_with_words}
 
 -- `path GRAPH COUNT ARC ..`
+abbrev pub path_line : Taken → List ℕ
+path_line t = line (codes "path") (decimal t.graph ∷ decimal t.count ∷ map decimal t.arcs)
+
 abbrev pub path_words : Taken → Words
 path_words t = codes "path" ∷ decimal t.graph ∷ decimal t.count ∷ map decimal t.arcs
 

@@ -1,8 +1,8 @@
 -- Why a text is refused.
 use Rattle.std.specs.Prelude.{◌≡◌, ℕ, List, Ok}
-use Rattle.model_text.specs.declared.kind.TextFault.{TextFault}
-use Rattle.model_text.specs.declared.kind.ReadError.{ReadError}
-use Rattle.model_text.specs.declared.kind.ReadError.TheVariants as read
+use Rattle.line_text.specs.declared.fault.TextFault.{TextFault}
+use Rattle.line_text.specs.declared.fault.ReadError.{ReadError}
+use Rattle.line_text.specs.declared.fault.ReadError.TheVariants as read
 use Rattle.model_text.specs.declared.draft.Draft.{Draft}
 use Rattle.model_text.specs.FirstFault.{text_read, IsFaultOf, IsFirstTextFault}
 use Rattle.model_text.specs.Spelling.{SpellsNothing}

@@ -1,21 +1,12 @@
 -- Which texts spell which model.
-use Rattle.std.specs.Prelude.{◌≡◌, ℕ, ◌⊎◌, List, [], ◌∷◌, map, filter, All, false}
-use Rattle.std.specs.Option.{option_map_or}
-use Rattle.std.specs.Fmt.{signed_decimal}
+use Rattle.std.specs.Prelude.{◌≡◌, ℕ, ◌⊎◌, List, [], ◌∷◌, map, All, false}
 use Rattle.route_model.specs.Parts.{ModelParts}
 use Rattle.route_model.specs.Fit.{IsModel}
-use Rattle.vrp_lex.specs.Text.{lines_of, words_of, has_bad_byte, number_of}
-use Rattle.model_text.specs.Wanted.{Words, are_some_words}
+use Rattle.vrp_lex.specs.Text.{lines_of, has_bad_byte}
+use Rattle.line_text.specs.Words.{Words}
+use Rattle.line_text.specs.Spelling.{in_printed_form, lines_with_words}
 use Rattle.model_text.specs.LineKinds.{version_words}
 use Rattle.model_text.specs.ModelLines.{sets_words, model_lines}
-
--- a number in printed form: without leading zeros, and 0 without `-`; any other word stays as it is
-abbrev pub in_printed_form : List ℕ → List ℕ
-in_printed_form word = option_map_or signed_decimal (number_of word) word
-
--- the lines of a text that have words, as their words
-abbrev pub lines_with_words : List ℕ → List Words
-lines_with_words text = filter are_some_words (map words_of (lines_of text))
 
 -- the line of the sets, which may be left out where there are none
 abbrev pub IsSetsPart : ℕ → List Words → Type 0

@@ -7,6 +7,8 @@ use Rattle.model_text.specs.declared.draft.Stage.TheVariants.{Opening, Variables
 use Rattle.model_text.specs.declared.draft.Section.{Section}
 use Rattle.model_text.specs.declared.draft.Draft.{Draft}
 use Rattle.model_text.specs.Draft.{sections_of}
+use Rattle.path_graph.specs.declared.limits.TheConstants.{MAX_VERTICES, MAX_PATHS}
+use Rattle.route_model.specs.declared.limits.TheConstants.{MAX_VARS, MAX_TERMS, MAX_GRAPHS, MAX_ALL_ARCS}
 use Rattle.route_model.specs.Fit.{row_coef, total_coef}
 
 -- for each variable the sum of its absolute coefficients over the rows, and over the terms of one row more
@@ -27,14 +29,14 @@ arc_total sections = sum_by (λ s. length s.arcs) sections
 
 -- no limit is passed so far
 pub record IsUnderway (d : Draft) : Type 0 where
-  pub vars : length d.vars ≤ 30000
+  pub vars : length d.vars ≤ MAX_VARS
   pub no_row_yet : d.stage ≡ Opening → d.rows ≡ []
   pub first_row : d.stage ≡ Variables → d.rows ≡ []
-  pub terms : term_total d.rows ≤ 1000000
-  pub graphs : length (sections_of d) ≤ 64
-  pub paths : path_total (sections_of d) ≤ 4096
-  pub arcs : arc_total (sections_of d) ≤ 100000
-  pub count : d.current.count ≤ 1024
+  pub terms : term_total d.rows ≤ MAX_TERMS
+  pub graphs : length (sections_of d) ≤ MAX_GRAPHS
+  pub paths : path_total (sections_of d) ≤ MAX_PATHS
+  pub arcs : arc_total (sections_of d) ≤ MAX_ALL_ARCS
+  pub count : d.current.count ≤ MAX_VERTICES
   pub vertices : length d.current.vertices ≤ d.current.count
   pub to_come : d.stage ≡ Vertices → length d.current.vertices < d.current.count
 

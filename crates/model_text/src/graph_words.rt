@@ -1,23 +1,23 @@
-ghost use Rattle.std.specs.Prelude.{◌≡◌, ℕ, ◌+◌, ◌<◌, ◌≤◌, ◌^◌, [], ◌∷◌, length, sum_by, take, drop, map, pos, IfOk, if◌then◌else◌};
+ghost use Rattle.std.specs.Prelude.{◌≡◌, false, ℕ, ◌+◌, ◌<◌, ◌≤◌, ◌^◌, [], ◌∷◌, length, sum_by, take, drop, map, pos, IfOk, if◌then◌else◌};
 ghost use Rattle.vrp_lex.specs.Text.{words_of};
 ghost use Rattle.path_graph.specs.Fit.{is_used_at};
 ghost use Rattle.path_graph.specs.Walk.{positions};
-ghost use Rattle.model_text.specs.Wanted.{give};
+ghost use Rattle.line_text.specs.Words.{give};
 ghost use Rattle.model_text.specs.LineWords.{last_of, is_above, graph_wanted, window_at, need_at, vertex_wanted, mapped_wanted, arc_wanted};
-ghost use Rattle.model_text.specs.Wanted.{for_each, to_the_end};
+ghost use Rattle.line_text.specs.Words.{for_each, to_the_end};
 ghost use Rattle.model_text.specs.Totals.{path_total};
-ghost use Rattle.model_text.specs.Gives.{Gives, IsShorter};
+ghost use Rattle.line_text.specs.Gives.{Gives, IsShorter};
 
 use crate::draft::Section;
-use crate::kind::Kind;
 use crate::line_words::{is_above, need_of, set_of, window_of};
-use crate::wanted::{LineFault, fault_if, has_word, known_below, natural_in};
-use path_graph::{Ends, GraphArc, List, Vertex, Window, is_used};
+use line_text::{ItemReader, Kind, LineFault, fault_if, has_word, items, known_below, natural_in};
+use path_graph::{Ends, GraphArc, List, MAX_PATHS, MAX_VERTICES, Vertex, Window, is_used};
+use route_model::{MAX_GRAPHS, MAX_MAPPED};
 use std::alloc::Global;
 
 /// The sum of the high path counts.
 fn path_total(sections: &[Section]) -> u64
-    requires few { length sections.now ≤ 64 }
+    requires few { length sections.now ≤ MAX_GRAPHS }
     ensures { result ≡ path_total sections.now }
 {
     sections.iter().map(|s| u64::from(s.ends.high)).sum()
@@ -28,23 +28,23 @@ pub fn graph_of<'a>(
     words: &'a [u8],
     sections: &[Section],
 ) -> Result<((u32, Ends), &'a [u8]), LineFault>
-    requires few { length sections.now ≤ 64 }
-    requires paths { path_total sections.now ≤ 4096 }
+    requires few { length sections.now ≤ MAX_GRAPHS }
+    requires paths { path_total sections.now ≤ MAX_PATHS }
     ensures gives { Gives (λ x. (x.0, words_of x.1.now)) result
         (graph_wanted sections.now (words_of words.now)) }
-    ensures count { IfOk result (λ x. (0 < x.0.0) × (x.0.0 ≤ 1024)) }
-    ensures paths { IfOk result (λ x. path_total sections.now + x.0.1.high ≤ 4096) }
+    ensures count { IfOk result (λ x. (0 < x.0.0) × (x.0.0 ≤ MAX_VERTICES)) }
+    ensures paths { IfOk result (λ x. path_total sections.now + x.0.1.high ≤ MAX_PATHS) }
 {
-    let (count, words) = natural_in(words, 2, 1_024)?;
+    let (count, words) = natural_in(words, 2, MAX_VERTICES as u32)?;
     let (source, words) = known_below(words, count)?;
     let (sink, words) = known_below(words, count)?;
     fault_if(Kind::Ends, sink == source)?;
-    let (low, words) = natural_in(words, 0, 4_096)?;
-    let (high, words) = natural_in(words, 0, 4_096)?;
+    let (low, words) = natural_in(words, 0, MAX_PATHS)?;
+    let (high, words) = natural_in(words, 0, MAX_PATHS)?;
     fault_if(Kind::Box, high < low)?;
     fault_if(
         Kind::TooMany,
-        path_total(sections) + u64::from(high) > 4_096,
+        path_total(sections) + u64::from(high) > u64::from(MAX_PATHS),
     )?;
     let (mains, words) = natural_in(words, 1, 2)?;
     let (seconds, words) = natural_in(words, 0, 4)?;
@@ -142,26 +142,32 @@ fn mapped_var<'a>(words: &'a [u8], vars: u32, mapped: &[u32]) -> Result<(u32, &'
 {
     let (var, words) = known_below(words, vars)?;
     fault_if(Kind::Order, !is_above(mapped.last().copied(), var))?;
-    fault_if(Kind::TooMany, mapped.len() >= 16)?;
+    fault_if(Kind::TooMany, mapped.len() >= MAX_MAPPED)?;
     Ok((var, words))
 }
 
-/// The mapped variables of an arc, to the end of the line.
-fn mapped_vars<'a>(
-    alloc: Global,
-    words: &'a [u8],
+/// The mapped variables of an arc.
+#[derive(Drop)]
+struct MappedVars {
     vars: u32,
-) -> Result<(List<u32>, &'a [u8]), LineFault>
-    ensures { Gives (λ x. (x.0, words_of x.1.now)) result (to_the_end (mapped_wanted vars) (words_of words.now)) }
-{
-    let mut mapped = List::new(alloc);
-    let mut rest = words;
-    while has_word(rest) {
-        let (var, behind) = mapped_var(rest, vars, mapped.as_slice())?;
-        mapped.push(var)?;
-        rest = behind;
+}
+
+impl ItemReader for MappedVars {
+    type Item = u32;
+
+    ghost stops = { λ _. false };
+
+    ghost wanted = { λ r. mapped_wanted r.vars };
+
+    ghost sound = { λ _ _. Unit {0} };
+
+    fn stops_at(&self, _word: &[u8]) -> bool {
+        false
     }
-    Ok((mapped, rest))
+
+    fn take<'a>(&mut self, before: &[u32], words: &'a [u8]) -> Result<(u32, &'a [u8]), LineFault> {
+        mapped_var(words, self.vars, before)
+    }
 }
 
 /// `TAIL HEAD`, then a consumption for each resource, then the mapped variables.
@@ -171,7 +177,7 @@ pub fn arc_of<'a>(
     vars: u32,
     section: &Section,
 ) -> Result<((GraphArc, List<u32>), &'a [u8]), LineFault>
-    requires { length section.now.vertices ≤ 1024 }
+    requires { length section.now.vertices ≤ MAX_VERTICES }
     ensures { Gives (λ x. (x.0, words_of x.1.now)) result (arc_wanted vars section.now (words_of words.now)) }
 {
     let count = section.vertices.len() as u32;
@@ -180,6 +186,6 @@ pub fn arc_of<'a>(
     let (head, words) = known_below(words, count)?;
     fault_if(Kind::Ends, head == section.ends.source)?;
     let (needs, words) = needs_of(words, &section.ends)?;
-    let (mapped, words) = mapped_vars(alloc, words, vars)?;
+    let (mapped, words) = items(&mut MappedVars { vars }, alloc, words)?;
     Ok(((GraphArc { tail, head, needs }, mapped), words))
 }

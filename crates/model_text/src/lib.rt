@@ -1,31 +1,27 @@
-//! Texts of models and plans: reading, printing, and the kinds of faults.
+//! Texts of models and plans: reading and printing.
 #![tactic(auto)]
 
-mod built;
 mod draft;
+mod draft_lines;
+mod draft_reader;
 mod end_line;
-mod further;
 mod graph_words;
-mod kind;
 mod line_kind;
 mod line_words;
-mod lines;
-mod path_lines;
+mod model_build;
+mod model_lines;
+mod model_print;
+mod model_reader;
+mod path_reader;
 mod path_words;
-mod plan_draft;
 mod plan_print;
-mod plan_read;
-mod print;
-mod read;
+mod printed_laws;
 mod row_words;
-mod wanted;
-mod whole;
-mod writer;
 
 pub use end_line::model_end;
-pub use kind::{Kind, ReadError, TextFault};
-pub use plan_print::print_plan;
-pub use plan_read::read_plan;
-pub use print::print_model;
-pub use read::read_model;
-pub use writer::LineWriter;
+pub use line_text::{Kind, LineWriter, ReadError, TextFault};
+pub use model_print::print_model;
+pub use model_reader::read_model;
+pub use path_reader::read_plan;
+pub use plan_print::{print_path, print_plan};
+pub use printed_laws::printed_text_laws;

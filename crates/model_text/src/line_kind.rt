@@ -4,6 +4,8 @@ ghost use Rattle.model_text.specs.Totals.{arc_total};
 ghost use Rattle.model_text.specs.LineKinds.{kind_of, may_stand, passes_limit};
 
 use crate::draft::{Draft, Section, Stage};
+use path_graph::MAX_ARCS;
+use route_model::{MAX_ALL_ARCS, MAX_GRAPHS, MAX_ROWS, MAX_VARS};
 
 /// The kinds of lines of a model text.
 #[derive(Clone, Copy, Debug, PartialEq, Eq)]
@@ -62,7 +64,7 @@ pub fn may_stand(kind: LineKind, stage: Stage) -> bool
 
 /// How many graphs there are.
 fn graph_count(draft: &Draft) -> usize
-    requires { length (sections_of draft.now) ≤ 64 }
+    requires { length (sections_of draft.now) ≤ MAX_GRAPHS }
     ensures { result ≡ length (sections_of draft.now) }
 {
     if draft.stage.is_in_graph() {
@@ -73,7 +75,7 @@ fn graph_count(draft: &Draft) -> usize
 }
 
 fn arcs_of_done(sections: &[Section]) -> usize
-    requires { arc_total sections.now ≤ 100000 }
+    requires { arc_total sections.now ≤ MAX_ALL_ARCS }
     ensures { result ≡ arc_total sections.now }
 {
     sections.iter().map(|section| section.arcs.len()).sum()
@@ -81,7 +83,7 @@ fn arcs_of_done(sections: &[Section]) -> usize
 
 /// How many arcs all graphs have.
 fn arc_count(draft: &Draft) -> usize
-    requires { arc_total (sections_of draft.now) ≤ 100000 }
+    requires { arc_total (sections_of draft.now) ≤ MAX_ALL_ARCS }
     ensures { result ≡ arc_total (sections_of draft.now) }
 {
     let done = arcs_of_done(draft.done.as_slice());
@@ -94,15 +96,17 @@ fn arc_count(draft: &Draft) -> usize
 
 /// Whether one more line of this kind passes a limit.
 pub fn passes_limit(kind: LineKind, draft: &Draft) -> bool
-    requires graphs { length (sections_of draft.now) ≤ 64 }
-    requires arcs { arc_total (sections_of draft.now) ≤ 100000 }
+    requires graphs { length (sections_of draft.now) ≤ MAX_GRAPHS }
+    requires arcs { arc_total (sections_of draft.now) ≤ MAX_ALL_ARCS }
     ensures { result ≡ passes_limit kind draft.now }
 {
     match kind {
-        LineKind::Var => draft.vars.len() >= 30_000,
-        LineKind::Row => draft.rows.len() >= 5_000,
-        LineKind::Graph => graph_count(draft) >= 64,
-        LineKind::Arc => draft.current.arcs.len() >= 60_000 || arc_count(draft) >= 100_000,
+        LineKind::Var => draft.vars.len() >= MAX_VARS,
+        LineKind::Row => draft.rows.len() >= MAX_ROWS,
+        LineKind::Graph => graph_count(draft) >= MAX_GRAPHS,
+        LineKind::Arc => {
+            draft.current.arcs.len() >= MAX_ARCS || arc_count(draft) as u64 >= MAX_ALL_ARCS
+        }
         _ => false,
     }
 }

@@ -1,16 +1,16 @@
-ghost use Rattle.std.specs.Prelude.{◌≡◌, ◌+◌, ◌<◌, ◌≤◌, ◌++◌, ◌∷◌, [], length, IfOk, OnOk};
+ghost use Rattle.std.specs.Prelude.{◌≡◌, ◌+◌, ◌<◌, ◌≤◌, ◌++◌, ◌∷◌, [], false, length, IfOk, OnOk};
 ghost use Rattle.std.specs.BTreeMap.{get};
 ghost use Rattle.std.specs.Map.{count_at};
 ghost use Rattle.std.specs.Ordering.{nat_cmp};
 ghost use Rattle.vrp_lex.specs.Text.{words_of};
-ghost use Rattle.model_text.specs.PathFault.{name_wanted, arcs_wanted, with_path};
+ghost use Rattle.line_text.specs.Gives.{Gives, IsShorter};
+ghost use Rattle.model_text.specs.PathFault.{name_wanted, arcs_wanted, path_rule, put};
 ghost use Rattle.model_text.specs.PathCounts.{AreCounts};
-ghost use Rattle.model_text.specs.Gives.{Gives, IsShorter};
+ghost use Rattle.line_text.specs.Words.{and_then, give};
 
-use crate::kind::Kind;
-use crate::plan_draft::PlanDraft;
-use crate::wanted::{LineFault, fault_if, has_word, natural_in};
-use path_graph::List;
+use crate::path_reader::PlanDraft;
+use line_text::{ItemReader, Kind, LineFault, fault_if, items, natural_in};
+use path_graph::{List, MAX_PATHS};
 use route_model::Taken;
 use std::alloc::Global;
 use std::collections::BTreeMap;
@@ -33,40 +33,55 @@ fn name_of(words: &[u8]) -> Result<(u32, &[u8]), LineFault>
     natural_in(words, 0, u32::MAX)
 }
 
-/// `ARC ..` of a path, to the end of the line.
+/// The arcs of a path.
+#[derive(Drop)]
+struct Arcs;
+
+impl ItemReader for Arcs {
+    type Item = u32;
+
+    ghost stops = { λ _. false };
+
+    ghost wanted = { λ _ _. name_wanted };
+
+    ghost sound = { λ _ _. Unit {0} };
+
+    fn stops_at(&self, _word: &[u8]) -> bool {
+        false
+    }
+
+    fn take<'a>(&mut self, _before: &[u32], words: &'a [u8]) -> Result<(u32, &'a [u8]), LineFault> {
+        name_of(words)
+    }
+}
+
+/// `ARC ..` of a path, to the end of the line: one arc or more.
 fn arcs_of(alloc: Global, words: &[u8]) -> Result<(List<u32>, &[u8]), LineFault>
     ensures { Gives (λ x. (x.0, words_of x.1.now)) result (arcs_wanted (words_of words.now)) }
 {
-    let mut arcs = List::new(alloc);
-    let (first, others) = name_of(words)?;
-    arcs.push(first)?;
-    let mut rest = others;
-    while has_word(rest) {
-        let (arc, behind) = name_of(rest)?;
-        arcs.push(arc)?;
-        rest = behind;
-    }
+    let (arcs, rest) = items(&mut Arcs, alloc, words)?;
+    fault_if(Kind::Word, arcs.is_empty())?;
     Ok((arcs, rest))
 }
 
-/// `GRAPH COUNT ARC ..` of a path, which is put behind the paths so far.
+/// `GRAPH COUNT ARC ..` of a path. Appends the path to the plan.
 pub fn take_path<'a>(
     alloc: Global,
     draft: &mut PlanDraft,
     counts: &mut BTreeMap<u32, u32>,
     words: &'a [u8],
 ) -> Result<&'a [u8], LineFault>
-    requires { AreCounts counts.old draft.old.paths }
+    requires { AreCounts counts.old draft.old.plan }
     ensures gives { Gives (λ rest. (draft.new, words_of rest.now)) result
-        (with_path draft.old (words_of words.now)) }
-    ensures counts { OnOk result (AreCounts counts.new draft.new.paths) }
+        (and_then (path_rule.further draft.old (words_of words.now)) (λ item. give (put draft.old item))) }
+    ensures counts { OnOk result (AreCounts counts.new draft.new.plan) }
 {
     let (graph, words) = name_of(words)?;
-    let (count, words) = natural_in(words, 1, 4_096)?;
+    let (count, words) = natural_in(words, 1, MAX_PATHS)?;
     let sum = count_of(counts, graph) + count;
-    fault_if(Kind::TooMany, sum > 4_096)?;
+    fault_if(Kind::TooMany, sum > MAX_PATHS)?;
     let (arcs, words) = arcs_of(alloc, words)?;
     counts.insert(graph, sum)?;
-    draft.paths.push(Taken { graph, count, arcs })?;
+    draft.plan.paths.push(Taken { graph, count, arcs })?;
     Ok(words)
 }

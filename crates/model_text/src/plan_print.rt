@@ -1,18 +1,28 @@
 ghost use Rattle.std.specs.Prelude.{◌≡◌, ◌++◌, OnOk, IfOk};
 ghost use Rattle.std.specs.List.{flat_map};
-ghost use Rattle.model_text.specs.Lines.{path_line};
-ghost use Rattle.model_text.specs.PathText.{plan_text, PlanFits, SpellsPlan};
+ghost use Rattle.model_text.specs.PathText.{path_line, plan_text, PlanFits, SpellsPlan};
 
-use crate::writer::LineWriter;
+use line_text::LineWriter;
 use path_graph::{List, NoMemory};
 use route_model::{Plan, Taken};
 use std::alloc::Global;
+
+/// Writes the line of a path.
+pub fn print_path(text: &mut LineWriter, path: &Taken) -> Result<(), NoMemory>
+    ensures { OnOk result (text.new ≡ text.old ++ path_line path.now) }
+{
+    text.first(b"path")?;
+    text.number(path.graph)?;
+    text.number(path.count)?;
+    text.numbers(path.arcs.as_slice())?;
+    text.end_line()
+}
 
 fn print_paths(text: &mut LineWriter, paths: &[Taken]) -> Result<(), NoMemory>
     ensures { OnOk result (text.new ≡ text.old ++ flat_map path_line paths.now) }
 {
     for path in paths {
-        text.path(path)?;
+        print_path(text, path)?;
     }
     Ok(())
 }

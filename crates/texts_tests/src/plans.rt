@@ -122,7 +122,7 @@ end/end/ | 4
 
 /// The plan of a text, or its fault.
 fn read(alloc: Global, text: &[u8]) -> Result<Result<Plan, TextFault>, Fail>
-    ensures { IfOk result (λ read. IfOk read (λ plan. PlanFits plan.paths)) }
+    ensures { IfOk result (λ read. IfOk read (λ plan. PlanFits plan)) }
 {
     if text.len() >= 4_294_967_295 {
         return Err(Fail::new("a text is too long"));

@@ -3,7 +3,7 @@ use Rattle.std.proofs.Common.{◌≡◌, ℕ, ◌+◌, ◌<◌, ◌≤◌, ℤ, 
 use Rattle.std.proofs.lemmas.List.{length_push, get_or_push, take_at, get_or-append-add, length-append}
 use Rattle.std.proofs.lemmas.List.Elements.{All-nil, All-push, All-take}
 use Rattle.route_model.specs.Fit.{IsModel}
-use Rattle.route_model.specs.Parts.{ModelParts}
+use Rattle.route_model.specs.Parts.{ModelParts, plan_with}
 use Rattle.route_model.specs.Quantities.{cost_of}
 use Rattle.route_model.specs.Solution.{IsSolution}
 use Rattle.vrp_cli.specs.declared.search.listed.ListedWalk.{ListedWalk}
@@ -74,13 +74,13 @@ choice_push m walks chosen next totals new best better model list h l room a lim
       ];
     }
 
-start_covers : (m : ModelParts) (walks : List ListedWalk) (totals : Totals) (best : Option Found) (xs : List ℕ) → IsModel m → AreTotalsOf m [] totals → (TotalsSolve m totals → IsAtMost best (cost_at m.vars totals.values.items)) → IsSolution m (plan_of walks xs) → IsAtMost best (cost_of m (plan_of walks xs)) ⊎ IsAhead [] 0 xs
+start_covers : (m : ModelParts) (walks : List ListedWalk) (totals : Totals) (best : Option Found) (xs : List ℕ) → IsModel m → AreTotalsOf m (plan_with []) totals → (TotalsSolve m totals → IsAtMost best (cost_at m.vars totals.values.items)) → IsSolution m (plan_of walks xs) → IsAtMost best (cost_of m (plan_of walks xs)) ⊎ IsAhead [] 0 xs
 start_covers m walks totals best [] model v considered sol =
-    inl (subst (IsAtMost best) (cost_at-same m [] totals v) (considered (passes_if_solves m [] totals model v sol)))
+    inl (subst (IsAtMost best) (cost_at-same m (plan_with []) totals v) (considered (passes_if_solves m (plan_with []) totals model v sol)))
 start_covers m walks totals best (b ∷ xs) model v considered sol = inr (omega arith)
 
 -- no walk is chosen yet
-pub choice_start : (m : ModelParts) (walks : List ListedWalk) (totals : Totals) (best : Option Found) → IsModel m → AreTotalsOf m [] totals → IfSome best (IsFound m walks) → (TotalsSolve m totals → IsAtMost best (cost_at m.vars totals.values.items)) → IsChoice m walks [] 0 totals best
+pub choice_start : (m : ModelParts) (walks : List ListedWalk) (totals : Totals) (best : Option Found) → IsModel m → AreTotalsOf m (plan_with []) totals → IfSome best (IsFound m walks) → (TotalsSolve m totals → IsAtMost best (cost_at m.vars totals.values.items)) → IsChoice m walks [] 0 totals best
 choice_start m walks totals best model v found considered = record {
   selection = record { numbers = All-nil (λ i. i < length walks); few = omega arith };
   next_within = omega arith;
@@ -173,7 +173,7 @@ same_choice m walks new chosen next totals p q r h =
     (subst (λ (n : ℕ). IsChoice m walks chosen n new.totals new.best) (sym q)
     (subst (λ (t : Totals). IsChoice m walks chosen next t new.best) (sym r) h))
 
-pub started : (m : ModelParts) (walks : List ListedWalk) (old new : Choice) → IsModel m → ListsAll m walks → old.chosen.items ≡ [] → old.next ≡ 0 → old.best ≡ None → AreTotalsOf m [] old.totals → Considers m old new → IsChoiceOf m walks new
+pub started : (m : ModelParts) (walks : List ListedWalk) (old new : Choice) → IsModel m → ListsAll m walks → old.chosen.items ≡ [] → old.next ≡ 0 → old.best ≡ None → AreTotalsOf m (plan_with []) old.totals → Considers m old new → IsChoiceOf m walks new
 started m walks old new model list p q r v c =
     let none = subst (λ (b : Option Found). IfSome b (IsFound m walks)) (sym r) tt in
     let chosen = subst (λ (xs : List ℕ). AreTotalsOf m (plan_of walks xs) old.totals) (sym p) v in

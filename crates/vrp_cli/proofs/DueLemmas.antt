@@ -2,60 +2,61 @@
 use Rattle.std.proofs.Common.{◌≡◌, ℕ, ℤ, ◌+◌, ◌≤◌, ◌<◌, ◌⊎◌, inl, inr, List, length, length-append, Option, Some, None, IfSome, arith, ap, subst}
 use Rattle.vrp_io.specs.Counts.{Rose}
 use Rattle.vrp_io.specs.Bytes.{TookExactly}
-use Rattle.route_model.specs.declared.plan.Taken.{Taken}
+use Rattle.route_model.specs.declared.plan.Plan.{Plan}
 use Rattle.route_model.specs.declared.plan.Verdict.{Verdict}
 use Rattle.route_model.specs.Parts.{ModelParts}
 use Rattle.route_model.specs.Solution.{IsSolution}
-use Rattle.model_text.specs.declared.kind.TextFault.{TextFault}
+use Rattle.line_text.specs.declared.fault.TextFault.{TextFault}
 use Rattle.model_text.specs.Spelling.{Spells}
 use Rattle.model_text.specs.Refusal.{IsRefusedFor}
 use Rattle.model_text.proofs.SpellsLawLemmas.{spells_one}
 use Rattle.model_text.proofs.PlanSpelledLemmas.{spells_one_plan}
+use Rattle.vrp_cli.specs.declared.limits.TheConstants.{MAX_INPUT}
 use Rattle.vrp_cli.specs.declared.command.Command.{Command}
 use Rattle.vrp_cli.specs.declared.command.Command.TheVariants.{Solve, Print, Eval}
 use Rattle.vrp_cli.specs.Commands.{Takes, model_part, path_part}
-use Rattle.vrp_cli.specs.Headline.{input_limit, TellsLeast, SpellsInfeasible, TellsModel, SpellsSolution, ArePathsRefusedFor, IsPlanRefusedFor, Answers, optimal, infeasible, printed, fine, words_refused, model_refused, paths_refused, plan_refused, read_failed, no_memory, too_long, Runs}
+use Rattle.vrp_cli.specs.Headline.{TellsLeast, SpellsInfeasible, TellsModel, SpellsSolution, ArePathsRefusedFor, IsPlanRefusedFor, Answers, optimal, infeasible, printed, fine, words_refused, model_refused, paths_refused, plan_refused, read_failed, no_memory, too_long, Runs, Stream}
 use Rattle.vrp_cli.specs.Endings.{IsDueOn, IsDue}
 use Rattle.vrp_cli.proofs.RunLemmas.{on_input, of_run, one_command}
 
-long_input : (command : Command) (a b : Option (List ℕ)) (end : ℕ) → TookExactly a b (input_limit + 1) → end ≡ 10 → IfSome a (IsDue command end)
+long_input : (command : Command) (a b : Option (List ℕ)) (end : ℕ) → TookExactly a b (MAX_INPUT + 1) → end ≡ 10 → IfSome a (IsDue command end)
 long_input command None b end took is = tt
 long_input command (Some input) None end took is = absurd took.taken
 long_input command (Some input) (Some rest) end took is =
-    let more : input_limit < length input = omega (arith, ap (λ (xs : List ℕ). length xs) took.taken, length-append took.bytes rest, took.count_is) in (
+    let more : MAX_INPUT < length input = omega (arith, ap (λ (xs : List ℕ). length xs) took.taken, length-append took.bytes rest, took.count_is) in (
       λ long. is,
       λ short none. absurd (omega (arith, more, short)),
       λ m short spelled. absurd (omega (arith, more, short)),
     )
 
 -- the model text spells a model, on which the status is due
-spelled_due : (command : Command) (end : ℕ) (input : List ℕ) (m : ModelParts) → length input ≤ input_limit → Spells (model_part command input) m → IsDueOn command m (path_part input) end → IsDue command end input
+spelled_due : (command : Command) (end : ℕ) (input : List ℕ) (m : ModelParts) → length input ≤ MAX_INPUT → Spells (model_part command input) m → IsDueOn command m (path_part input) end → IsDue command end input
 spelled_due command end input m few spelled due = (
   λ long. absurd (omega (arith, long, few)),
   λ short none. absurd (none m spelled),
   λ n short other. subst (λ (x : ModelParts). IsDueOn command x (path_part input) end) (spells_one (model_part command input) m n spelled other) due,
 )
 
-optimal_due : (end : ℕ) (text input : List ℕ) → end ≡ 0 → length input ≤ input_limit → TellsLeast text input → IsDue Solve end input
+optimal_due : (end : ℕ) (text input : List ℕ) → end ≡ 0 → length input ≤ MAX_INPUT → TellsLeast text input → IsDue Solve end input
 optimal_due end text input is few p =
     spelled_due Solve end input p.model few p.spelled (λ none. absurd (none p.plan p.least.solution), λ plan solves. is)
 
-infeasible_due : (end : ℕ) (input : List ℕ) → end ≡ 1 → length input ≤ input_limit → SpellsInfeasible input → IsDue Solve end input
+infeasible_due : (end : ℕ) (input : List ℕ) → end ≡ 1 → length input ≤ MAX_INPUT → SpellsInfeasible input → IsDue Solve end input
 infeasible_due end input is few p =
     spelled_due Solve end input p.model few p.spelled (λ none. is, λ plan solves. absurd (p.none plan solves))
 
-printed_due : (end : ℕ) (text input : List ℕ) → end ≡ 0 → length input ≤ input_limit → TellsModel text input → IsDue Print end input
+printed_due : (end : ℕ) (text input : List ℕ) → end ≡ 0 → length input ≤ MAX_INPUT → TellsModel text input → IsDue Print end input
 printed_due end text input is few p = spelled_due Print end input p.model few p.spelled is
 
-fine_due : (end : ℕ) (cost : ℤ) (input : List ℕ) → end ≡ 0 → length input ≤ input_limit → SpellsSolution cost input → IsDue Eval end input
+fine_due : (end : ℕ) (cost : ℤ) (input : List ℕ) → end ≡ 0 → length input ≤ MAX_INPUT → SpellsSolution cost input → IsDue Eval end input
 fine_due end cost input is few p =
     spelled_due Eval end input p.model few p.spelled (
       λ none. absurd (none p.plan p.planned),
-      λ plan planned unsolved. absurd (unsolved (subst (λ (paths : List Taken). IsSolution p.model paths) (spells_one_plan (path_part input) p.plan plan p.planned planned) p.solves)),
+      λ plan planned unsolved. absurd (unsolved (subst (λ (x : Plan). IsSolution p.model x) (spells_one_plan (path_part input) p.plan plan p.planned planned) p.solves)),
       λ plan planned solves. is,
     )
 
-paths_due : (end : ℕ) (fault : TextFault) (input : List ℕ) → end ≡ 4 → length input ≤ input_limit → ArePathsRefusedFor fault input → IsDue Eval end input
+paths_due : (end : ℕ) (fault : TextFault) (input : List ℕ) → end ≡ 4 → length input ≤ MAX_INPUT → ArePathsRefusedFor fault input → IsDue Eval end input
 paths_due end fault input is few p =
     spelled_due Eval end input p.model few p.spelled (
       λ none. is,
@@ -63,30 +64,30 @@ paths_due end fault input is few p =
       λ plan planned solves. absurd (p.none plan planned),
     )
 
-plan_due : (end : ℕ) (verdict : Verdict) (input : List ℕ) → end ≡ 4 → length input ≤ input_limit → IsPlanRefusedFor verdict input → IsDue Eval end input
+plan_due : (end : ℕ) (verdict : Verdict) (input : List ℕ) → end ≡ 4 → length input ≤ MAX_INPUT → IsPlanRefusedFor verdict input → IsDue Eval end input
 plan_due end verdict input is few p =
     spelled_due Eval end input p.model few p.spelled (
       λ none. is,
       λ plan planned unsolved. is,
-      λ plan planned solves. absurd (p.unsolved (subst (λ (paths : List Taken). IsSolution p.model paths) (spells_one_plan (path_part input) plan p.plan planned p.planned) solves)),
+      λ plan planned solves. absurd (p.unsolved (subst (λ (x : Plan). IsSolution p.model x) (spells_one_plan (path_part input) plan p.plan planned p.planned) solves)),
     )
 
-refused_due : (command : Command) (end : ℕ) (fault : TextFault) (input : List ℕ) → end ≡ 3 → length input ≤ input_limit → IsRefusedFor fault (model_part command input) → IsDue command end input
+refused_due : (command : Command) (end : ℕ) (fault : TextFault) (input : List ℕ) → end ≡ 3 → length input ≤ MAX_INPUT → IsRefusedFor fault (model_part command input) → IsDue command end input
 refused_due command end fault input is few p = (
   λ long. absurd (omega (arith, long, few)),
   λ short none. is,
   λ m short spelled. absurd (p.1 m spelled),
 )
 
-pub due_of : {words : List (List ℕ)} {a b : Option (List ℕ)} {f g : ℕ} {w v : Option (List ℕ)} {h k end : ℕ} → Runs words a b f g w v h k end → (command : Command) → Takes words command → (Rose f g → ⊥) → (Rose h k → ⊥) → (end ≡ 9) ⊎ IfSome a (IsDue command end)
-due_of {words} {a} {b} {f} {g} {w} {v} {h} {k} {end} run command taken no_read no_write =
-    of_run ((end ≡ 9) ⊎ IfSome a (IsDue command end)) run (λ status text answers is wrote. from status text answers is) (λ is rose. absurd (no_write rose))
+pub due_of : {words : List (List ℕ)} {a b w v : Stream} {end : ℕ} → Runs words a b w v end → (command : Command) → Takes words command → (Rose a.faults b.faults → ⊥) → (Rose w.faults v.faults → ⊥) → (end ≡ 9) ⊎ IfSome a.bytes (IsDue command end)
+due_of {words} {a} {b} {w} {v} {end} run command taken no_read no_write =
+    of_run ((end ≡ 9) ⊎ IfSome a.bytes (IsDue command end)) run (λ status text answers is wrote. from status text answers is) (λ is rose. absurd (no_write rose))
   where
     -- what is due for the command that the answer names
-    of_command : (named : Command) → Takes words named → IfSome a (IsDue named end) → (end ≡ 9) ⊎ IfSome a (IsDue command end)
-    of_command named known due = inr (subst (λ (c : Command). IfSome a (IsDue c end)) (one_command words named command known taken) due)
+    of_command : (named : Command) → Takes words named → IfSome a.bytes (IsDue named end) → (end ≡ 9) ⊎ IfSome a.bytes (IsDue command end)
+    of_command named known due = inr (subst (λ (c : Command). IfSome a.bytes (IsDue c end)) (one_command words named command known taken) due)
 
-    from : (status : ℕ) (text : List ℕ) → Answers words a b f g status text → end ≡ status → (end ≡ 9) ⊎ IfSome a (IsDue command end)
+    from : (status : ℕ) (text : List ℕ) → Answers words a b status text → end ≡ status → (end ≡ 9) ⊎ IfSome a.bytes (IsDue command end)
     from status text (optimal told known whole) is = of_command Solve known (on_input (IsDue Solve end) whole (λ input few p. optimal_due end told input is few p))
     from status text (infeasible known whole) is = of_command Solve known (on_input (IsDue Solve end) whole (λ input few p. infeasible_due end input is few p))
     from status text (printed told known whole) is = of_command Print known (on_input (IsDue Print end) whole (λ input few p. printed_due end told input is few p))
@@ -96,5 +97,5 @@ due_of {words} {a} {b} {f} {g} {w} {v} {h} {k} {end} run command taken no_read n
     from status text (paths_refused fault known whole) is = of_command Eval known (on_input (IsDue Eval end) whole (λ input few p. paths_due end fault input is few p))
     from status text (plan_refused verdict known whole) is = of_command Eval known (on_input (IsDue Eval end) whole (λ input few p. plan_due end verdict input is few p))
     from status text (read_failed known rose) is = absurd (no_read rose)
-    from status text (no_memory known took kept) is = inl is
-    from status text (too_long known took kept) is = inr (long_input command a b end took is)
+    from status text (no_memory known took) is = inl is
+    from status text (too_long known took) is = inr (long_input command a.bytes b.bytes end took is)

@@ -1,27 +1,28 @@
 -- Lemmas on the endings of a run.
-use Rattle.std.proofs.Common.{◌≡◌, ℕ, ◌-◌, ◌≤◌, List, length, take, drop, Option, Result, Ok, Err, sym, ◌∙◌, ap, subst, refl, arith, ℤ}
+use Rattle.std.proofs.Common.{◌≡◌, ℕ, ◌-◌, ◌≤◌, List, length, take, drop, Result, Ok, Err, sym, ◌∙◌, ap, subst, refl, arith, ℤ}
 use Rattle.std.specs.Prelude.{IfOk}
 use Rattle.std.proofs.lemmas.List.{length-drop, take_all}
 use Rattle.std.proofs.KnownBytes.{Consumes-whole}
 use Rattle.vrp_io.specs.Bytes.{TookAll}
-use Rattle.route_model.specs.declared.plan.Taken.{Taken}
+use Rattle.route_model.specs.declared.plan.Plan.{Plan}
 use Rattle.route_model.specs.Parts.{ModelParts}
 use Rattle.route_model.specs.Quantities.{cost_of}
-use Rattle.model_text.specs.declared.kind.TextFault.{TextFault}
+use Rattle.line_text.specs.declared.fault.TextFault.{TextFault}
 use Rattle.model_text.specs.ModelEnd.{model_end}
 use Rattle.model_text.specs.Spelling.{Spells}
 use Rattle.model_text.specs.Refusal.{IsRefusedFor}
+use Rattle.vrp_cli.specs.declared.limits.TheConstants.{MAX_INPUT}
 use Rattle.vrp_cli.specs.declared.answer.Answer.{Answer}
-use Rattle.vrp_cli.specs.declared.answer.Answer.TheVariants.{Optimal, Infeasible, Printed, Fine, Model, Paths, Plan}
+use Rattle.vrp_cli.specs.declared.answer.Answer.TheVariants.{Optimal, Infeasible, Printed, Fine, RefusedModel, RefusedPaths, RefusedPlan}
 use Rattle.vrp_cli.specs.declared.command.Command.{Command}
 use Rattle.vrp_cli.specs.declared.command.Command.TheVariants.{Solve, Print, Eval}
 use Rattle.vrp_cli.specs.Commands.{Takes, model_part, path_part}
 use Rattle.vrp_cli.specs.Texts.{optimal_text, refused_model_text}
-use Rattle.vrp_cli.specs.Headline.{IsLeastPlan, input_limit, TellsLeast, SpellsInfeasible, TellsModel, SpellsSolution, ArePathsRefusedFor, IsPlanRefusedFor, ReadWhole, Answers, optimal, infeasible, printed, fine, model_refused, paths_refused, plan_refused}
+use Rattle.vrp_cli.specs.Headline.{Stream, IsLeastPlan, TellsLeast, SpellsInfeasible, TellsModel, SpellsSolution, ArePathsRefusedFor, IsPlanRefusedFor, ReadWhole, Answers, optimal, infeasible, printed, fine, model_refused, paths_refused, plan_refused}
 use Rattle.vrp_cli.specs.Answer.{status_of, text_of, RefusesModel, AnswersPaths, AnswersInput}
 
 -- the text of a least plan
-pub tells_least : (input text : List ℕ) (m : ModelParts) (plan : List Taken) (cost : ℤ) → Spells input m → IsLeastPlan m cost plan → text ≡ optimal_text cost plan → TellsLeast text input
+pub tells_least : (input text : List ℕ) (m : ModelParts) (plan : Plan) (cost : ℤ) → Spells input m → IsLeastPlan m cost plan → text ≡ optimal_text cost plan → TellsLeast text input
 tells_least input text m plan cost spelled best told =
     record {
       model = m;
@@ -46,8 +47,8 @@ behind_model {E} input end m r is spelled answers =
     by_result r model (subst (λ (paths : List ℕ). IfOk r (AnswersPaths m paths)) rest answers)
   where
     of_answer : (answer : Answer) → Spells (model_part Eval input) m → AnswersPaths m (path_part input) answer → AnswersInput Eval input answer
-    of_answer (Model text) spelled p = absurd p.2
-    of_answer (Paths text) spelled p = (m, spelled, p)
+    of_answer (RefusedModel text) spelled p = absurd p.2
+    of_answer (RefusedPaths text) spelled p = (m, spelled, p)
     of_answer _ spelled p = (m, spelled, p)
 
     by_result : (r : Result Answer E) → Spells (model_part Eval input) m → IfOk r (AnswersPaths m (path_part input)) → IfOk r (AnswersInput Eval input)
@@ -55,36 +56,35 @@ behind_model {E} input end m r is spelled answers =
     by_result (Err e) spelled p = p
 
 -- what is answered to an input that was read whole
-pub answers_input : (words : List (List ℕ)) (old new : Option (List ℕ)) (faults_old faults_new : ℕ) (command : Command) (input : List ℕ) (answer : Answer) → Takes words command → TookAll old new input → faults_new ≡ faults_old → length input ≤ input_limit → AnswersInput command input answer → Answers words old new faults_old faults_new (status_of answer) (text_of answer)
-answers_input words old new fo fn command input answer taken took kept few holds = of_command command answer taken holds
+pub answers_input : (words : List (List ℕ)) (old new : Stream) (command : Command) (input : List ℕ) (answer : Answer) → Takes words command → TookAll old.bytes new.bytes input → length input ≤ MAX_INPUT → AnswersInput command input answer → Answers words old new (status_of answer) (text_of answer)
+answers_input words old new command input answer taken took few holds = of_command command answer taken holds
   where
-    whole : (P : List ℕ → Type 0) → P input → ReadWhole old new fo fn P
+    whole : (P : List ℕ → Type 0) → P input → ReadWhole old new P
     whole P holds = record {
       end = took.end;
-      kept = kept;
-      input = Consumes-whole old new input (λ bytes. (length bytes ≤ input_limit) × P bytes) took.taken took.end (few, holds);
+      input = Consumes-whole old.bytes new.bytes input (λ bytes. (length bytes ≤ MAX_INPUT) × P bytes) took.taken took.end (few, holds);
     }
 
     -- a text by an equation
-    told : (status : ℕ) (is text : List ℕ) → text ≡ is → Answers words old new fo fn status is → Answers words old new fo fn status text
-    told status is text e answers = subst (λ (t : List ℕ). Answers words old new fo fn status t) (sym e) answers
+    told : (status : ℕ) (is text : List ℕ) → text ≡ is → Answers words old new status is → Answers words old new status text
+    told status is text e answers = subst (λ (t : List ℕ). Answers words old new status t) (sym e) answers
 
-    refuses : (command : Command) (text : List ℕ) → Takes words command → RefusesModel command input text → Answers words old new fo fn 3 text
+    refuses : (command : Command) (text : List ℕ) → Takes words command → RefusesModel command input text → Answers words old new 3 text
     refuses command text taken p = told 3 _ text p.2 (model_refused command p.0 taken (whole (λ bytes. IsRefusedFor p.0 (model_part command bytes)) p.1))
 
-    of_paths : (m : ModelParts) (answer : Answer) → Takes words Eval → Spells (model_part Eval input) m → AnswersPaths m (path_part input) answer → Answers words old new fo fn (status_of answer) (text_of answer)
-    of_paths m (Paths text) taken spelled p = told 4 _ text p.3 (paths_refused p.0 taken (whole (ArePathsRefusedFor p.0) (record { model = m; spelled = spelled; first = p.1; none = p.2 })))
+    of_paths : (m : ModelParts) (answer : Answer) → Takes words Eval → Spells (model_part Eval input) m → AnswersPaths m (path_part input) answer → Answers words old new (status_of answer) (text_of answer)
+    of_paths m (RefusedPaths text) taken spelled p = told 4 _ text p.3 (paths_refused p.0 taken (whole (ArePathsRefusedFor p.0) (record { model = m; spelled = spelled; first = p.1; none = p.2 })))
     of_paths m (Fine text) taken spelled p = told 0 _ text p.2.1 (fine (cost_of m p.0) taken (whole (SpellsSolution (cost_of m p.0)) (record { model = m; spelled = spelled; plan = p.0; planned = p.1; solves = p.2.0; costs = refl })))
-    of_paths m (Plan text) taken spelled p = told 4 _ text p.2.3 (plan_refused p.2.0 taken (whole (IsPlanRefusedFor p.2.0) (record { model = m; spelled = spelled; plan = p.0; planned = p.1; unsolved = p.2.2; first = p.2.1 })))
+    of_paths m (RefusedPlan text) taken spelled p = told 4 _ text p.2.3 (plan_refused p.2.0 taken (whole (IsPlanRefusedFor p.2.0) (record { model = m; spelled = spelled; plan = p.0; planned = p.1; unsolved = p.2.2; first = p.2.1 })))
     of_paths m _ taken spelled p = absurd p.2
 
-    of_command : (command : Command) (answer : Answer) → Takes words command → AnswersInput command input answer → Answers words old new fo fn (status_of answer) (text_of answer)
+    of_command : (command : Command) (answer : Answer) → Takes words command → AnswersInput command input answer → Answers words old new (status_of answer) (text_of answer)
     of_command Solve (Optimal text) taken p = optimal text taken (whole (TellsLeast text) p)
     of_command Solve Infeasible taken p = infeasible taken (whole SpellsInfeasible p)
-    of_command Solve (Model text) taken p = refuses Solve text taken p
+    of_command Solve (RefusedModel text) taken p = refuses Solve text taken p
     of_command Solve _ taken p = absurd p
     of_command Print (Printed text) taken p = printed text taken (whole (TellsModel text) p)
-    of_command Print (Model text) taken p = refuses Print text taken p
+    of_command Print (RefusedModel text) taken p = refuses Print text taken p
     of_command Print _ taken p = absurd p
-    of_command Eval (Model text) taken p = refuses Eval text taken p
+    of_command Eval (RefusedModel text) taken p = refuses Eval text taken p
     of_command Eval answer taken p = of_paths p.0 answer taken p.1 p.2

@@ -5,12 +5,12 @@ use Rattle.std.proofs.lemmas.Bool.{cases_lt}
 use Rattle.std.proofs.lemmas.List.Sums.{sum_by-cons, sum_by-le}
 use Rattle.std.proofs.lemmas.List.Elements.{All-nil, All-cons}
 use Rattle.route_model.specs.declared.plan.Taken.{Taken}
-use Rattle.route_model.specs.Parts.{ModelParts, taken_at}
-use Rattle.route_model.specs.First.{EachBelow}
+use Rattle.route_model.specs.declared.plan.Plan.{Plan}
+use Rattle.route_model.specs.Parts.{ModelParts, plan_with}
 use Rattle.route_model.specs.Fit.{IsModel}
 use Rattle.route_model.specs.Quantities.{is_of, cost_of}
 use Rattle.route_model.specs.Tidy.{IsTidy, KeepsQuantities, AllComeFrom, AreFew}
-use Rattle.route_model.specs.Solution.{IsPath, IsSolution, IsLeast, HasNoSolution}
+use Rattle.route_model.specs.Solution.{IsPath, ArePaths, IsSolution, IsLeast, HasNoSolution}
 use Rattle.vrp_cli.specs.declared.search.listed.ListedWalk.{ListedWalk}
 use Rattle.vrp_cli.specs.declared.search.choose.Found.{Found}
 use Rattle.vrp_cli.specs.Listed.{walk_at, ListsAll}
@@ -63,17 +63,17 @@ insert_many n i (suc count) xs r h b =
     }
 
 -- a rising selection with the quantities of a plan
-pub record Selects (walks : List ListedWalk) (plan : List Taken) : Type 0 where
+pub record Selects (walks : List ListedWalk) (plan : Plan) : Type 0 where
   pub xs : List ℕ
   pub rising : IsRisingFrom 0 xs
   pub numbers : All (λ i. i < length walks) xs
   pub keeps : KeepsQuantities plan (plan_of walks xs)
 
-pub selects : (m : ModelParts) (walks : List ListedWalk) (plan : List Taken) → ListsAll m walks → EachBelow (length plan) (λ k. IsPath m (taken_at plan k)) → Selects walks plan
-selects m walks [] list paths = record { xs = []; rising = tt; numbers = All-nil (λ i. i < length walks); keeps = λ f. refl }
-selects m walks (t ∷ plan) list paths =
-    let rest = selects m walks plan list (λ k l. paths (suc k) (omega arith)) in
-    let path : IsPath m t = paths 0 (omega arith) in
+pub selects : (m : ModelParts) (walks : List ListedWalk) (paths : List Taken) → ListsAll m walks → ArePaths m (plan_with paths) → Selects walks (plan_with paths)
+selects m walks [] list each = record { xs = []; rising = tt; numbers = All-nil (λ i. i < length walks); keeps = λ f. refl }
+selects m walks (t ∷ paths) list each =
+    let rest = selects m walks paths list (λ k l. each (suc k) (omega arith)) in
+    let path : IsPath m t = each 0 (omega arith) in
     let found = list.complete t.graph t.arcs path.graph path.walk in
     let i = found.0 in
     let more = insert_many (length walks) i t.count rest.xs rest.rising rest.numbers found.1 in
@@ -84,7 +84,7 @@ selects m walks (t ∷ plan) list paths =
       keeps = λ f.
           let made = quantity-plan_of f walks more.ys in
           let sums = more.sums (λ k. f (walk_at walks k).graph (walk_at walks k).arcs) in
-          let old = sum_by-cons (λ (s : Taken). s.count * f s.graph s.arcs) t plan in
+          let old = sum_by-cons (λ (s : Taken). s.count * f s.graph s.arcs) t paths in
           let before = quantity-plan_of f walks rest.xs in
           let kept = rest.keeps f in
           let same : t.count * f (walk_at walks i).graph (walk_at walks i).arcs ≡ t.count * f t.graph t.arcs = ap (λ (g : ℕ). t.count * f g (walk_at walks i).arcs) found.2 ∙ ap (λ (w : List ℕ). t.count * f t.graph w) found.3 in
@@ -92,16 +92,16 @@ selects m walks (t ∷ plan) list paths =
     }
 
 -- a solution costs what some rising selection costs that is a solution
-pub record Exchanges (m : ModelParts) (walks : List ListedWalk) (plan : List Taken) : Type 0 where
+pub record Exchanges (m : ModelParts) (walks : List ListedWalk) (plan : Plan) : Type 0 where
   pub xs : List ℕ
   pub rising : IsRisingFrom 0 xs
   pub selection : IsSelection m walks xs
   pub solution : IsSolution m (plan_of walks xs)
   pub costs : cost_of m (plan_of walks xs) ≡ cost_of m plan
 
-pub exchanges : (m : ModelParts) (walks : List ListedWalk) (plan : List Taken) → ListsAll m walks → IsSolution m plan → Exchanges m walks plan
+pub exchanges : (m : ModelParts) (walks : List ListedWalk) (plan : Plan) → ListsAll m walks → IsSolution m plan → Exchanges m walks plan
 exchanges m walks plan list s =
-    let chosen = selects m walks plan list s.paths in
+    let chosen = selects m walks plan.paths list s.paths in
     let solution = solution_kept_of m plan (plan_of walks chosen.xs) chosen.keeps (selected_path m walks chosen.xs list chosen.numbers) s in
     record {
       xs = chosen.xs;
@@ -130,10 +130,10 @@ best_is_least m walks best found list e h =
     )
 
 -- the tidy plan of the best selection is least
-pub tidied_least : (m : ModelParts) (walks : List ListedWalk) (best : Option Found) (found : Found) (old new : List Taken) → ListsAll m walks → best ≡ Some found → IsBest m walks best → old ≡ plan_of walks found.chosen → IsTidy new → KeepsQuantities old new → AllComeFrom old new → IsLeastPlan m found.cost new
+pub tidied_least : (m : ModelParts) (walks : List ListedWalk) (best : Option Found) (found : Found) (old new : Plan) → ListsAll m walks → best ≡ Some found → IsBest m walks best → old ≡ plan_of walks found.chosen → IsTidy new → KeepsQuantities old new → AllComeFrom old new → IsLeastPlan m found.cost new
 tidied_least m walks best found old new list e h made tidy same comes =
     let chosen = best_is_least m walks best found list e h in
-    let least : IsLeast m old = subst (λ (ps : List Taken). IsLeast m ps) (sym made) chosen.0 in
+    let least : IsLeast m old = subst (λ (p : Plan). IsLeast m p) (sym made) chosen.0 in
     record {
       least = least_kept m old new same comes least;
       tidy = tidy;

@@ -1,6 +1,6 @@
 -- What a verdict on a plan says of it.
-use Rattle.std.proofs.Common.{◌≡◌, ℤ, List, refl}
-use Rattle.route_model.specs.declared.plan.Taken.{Taken}
+use Rattle.std.proofs.Common.{◌≡◌, ℤ, refl}
+use Rattle.route_model.specs.declared.plan.Plan.{Plan}
 use Rattle.route_model.specs.declared.plan.Verdict.{Verdict}
 use Rattle.route_model.specs.declared.plan.Verdict.TheVariants.{Fine, NotWalk, Count, Packing, VarBox, RowBox}
 use Rattle.route_model.specs.Parts.{ModelParts}
@@ -8,7 +8,7 @@ use Rattle.route_model.specs.Solution.{IsSolution}
 use Rattle.route_model.specs.Verdicts.{IsVerdict}
 
 -- a plan with a fault is no solution
-pub fault_unsolved : (m : ModelParts) (plan : List Taken) (verdict : Verdict) → IsVerdict m plan verdict → ((cost : ℤ) → verdict ≡ Fine cost → ⊥) → ¬ (IsSolution m plan)
+pub fault_unsolved : (m : ModelParts) (plan : Plan) (verdict : Verdict) → IsVerdict m plan verdict → ((cost : ℤ) → verdict ≡ Fine cost → ⊥) → ¬ (IsSolution m plan)
 fault_unsolved m plan (Fine cost) is other solves = other cost refl
 fault_unsolved m plan (NotWalk i) is other solves = is.fails (solves.paths i is.within)
 fault_unsolved m plan (Count g) is other solves = is.1.fails (solves.counts g is.1.within)

@@ -9,9 +9,9 @@ use Rattle.std.proofs.lemmas.List.Elements.{All-from_get_or}
 use Rattle.std.proofs.lemmas.List.Sums.{sum_by-cons, count_by-le-length}
 use Rattle.path_graph.proofs.SumLemmas.{sum_below-≤}
 use Rattle.route_model.specs.declared.parts.RowTerm.{RowTerm}
-use Rattle.route_model.specs.declared.plan.Taken.{Taken}
+use Rattle.route_model.specs.declared.plan.Plan.{Plan}
 use Rattle.route_model.specs.Fit.{IsModel, VarFits, RowFits}
-use Rattle.route_model.specs.Parts.{ModelParts, var_at, row_at, term_at, graph_at}
+use Rattle.route_model.specs.Parts.{ModelParts, plan_with, var_at, row_at, term_at, graph_at}
 use Rattle.route_model.specs.Quantities.{value_of, row_sum}
 use Rattle.route_model.specs.Solution.{IsSolution, IsBetween}
 use Rattle.route_model.proofs.SolutionLemmas.{between_ends}
@@ -26,7 +26,7 @@ var_fits : (m : ModelParts) (j : ℕ) → IsModel m → j < length m.vars → Va
 var_fits m j model l = model.fits.vars.each j _ l
 
 -- the totals of no walk are within their limits, and so are those with a walk less
-pub no_limit_above : (m : ModelParts) (t : Totals) → IsModel m → AreTotalsOf m [] t → AreInLimits m t
+pub no_limit_above : (m : ModelParts) (t : Totals) → IsModel m → AreTotalsOf m (plan_with []) t → AreInLimits m t
 no_limit_above m t model h = record {
   vars = λ j l. let fits = var_fits m j model l in
       let low = fits.low in
@@ -37,7 +37,7 @@ no_limit_above m t model h = record {
   counts = λ g l. let none : ◌≡◌ {A = ℕ} (slice_index t.counts.items g) 0 = h.counts.each g l in omega arith;
 }
 
-pub limits_less : (m : ModelParts) (w : ListedWalk) (plan : List Taken) (old new : Totals) → AreTotalsOf m plan new → AreInLimits m old → AddsWalk w new old → AreInLimits m new
+pub limits_less : (m : ModelParts) (w : ListedWalk) (plan : Plan) (old new : Totals) → AreTotalsOf m plan new → AreInLimits m old → AddsWalk w new old → AreInLimits m new
 limits_less m w plan old new sizes h a =
     let values = sizes.values.count in
     let visits = sizes.visits.count in
@@ -152,7 +152,7 @@ full_is_cut m w t listed full plan both sol =
     omega (arith, full, has, one, high)
 
 -- a solution keeps a term of a row between its least and its greatest
-term_between : (m : ModelParts) (plan : List Taken) (values : List ℕ) (t : RowTerm) → IsModel m → t.var < length m.vars → slice_index values t.var ≤ value_of m plan t.var → IsSolution m plan → (least_term m.vars values t ≤ℤ (t.coef *ℤ pos (value_of m plan t.var))) × ((t.coef *ℤ pos (value_of m plan t.var)) ≤ℤ greatest_term m.vars values t)
+term_between : (m : ModelParts) (plan : Plan) (values : List ℕ) (t : RowTerm) → IsModel m → t.var < length m.vars → slice_index values t.var ≤ value_of m plan t.var → IsSolution m plan → (least_term m.vars values t ≤ℤ (t.coef *ℤ pos (value_of m plan t.var))) × ((t.coef *ℤ pos (value_of m plan t.var)) ≤ℤ greatest_term m.vars values t)
 term_between m plan values t model l le sol = ends (var_at m.vars t.var).high (sol.vars t.var l).1
   where
     ends : (high : ℤ) → pos (value_of m plan t.var) ≤ℤ high → (int_min (t.coef *ℤ pos (slice_index values t.var)) (t.coef *ℤ high) ≤ℤ (t.coef *ℤ pos (value_of m plan t.var))) × ((t.coef *ℤ pos (value_of m plan t.var)) ≤ℤ int_max (t.coef *ℤ pos (slice_index values t.var)) (t.coef *ℤ high))
@@ -160,7 +160,7 @@ term_between m plan values t model l le sol = ends (var_at m.vars t.var).high (s
     ends (negsuc h) b = absurd (omega (arith, ints, b))
 
 -- so each row can hold
-row_can_hold : (m : ModelParts) (plan : List Taken) (values : List ℕ) (i : ℕ) → IsModel m → i < length m.rows → ((j : ℕ) → j < length m.vars → slice_index values j ≤ value_of m plan j) → IsSolution m plan → RowCanHold m.vars values (row_at m.rows i)
+row_can_hold : (m : ModelParts) (plan : Plan) (values : List ℕ) (i : ℕ) → IsModel m → i < length m.rows → ((j : ℕ) → j < length m.vars → slice_index values j ≤ value_of m plan j) → IsSolution m plan → RowCanHold m.vars values (row_at m.rows i)
 row_can_hold m plan values i model l le sol =
     let row = row_at m.rows i in
     let fits : RowFits (length m.vars) row = model.fits.rows.each i _ l in
@@ -179,7 +179,7 @@ row_can_hold m plan values i model l le sol =
     high_side low (Some l) x y h le = (tt, omega (arith, ints, h.1, le))
 
 -- totals that a solution has at least may go on
-pub goes_on_if_solves : (m : ModelParts) (w : ListedWalk) (old new : Totals) (plan : List Taken) → IsModel m → IsListed m w → HaveSizes m old → AddsWalk w old new → HasBoth m plan old w → IsSolution m plan → MayGoOn m w new
+pub goes_on_if_solves : (m : ModelParts) (w : ListedWalk) (old new : Totals) (plan : Plan) → IsModel m → IsListed m w → HaveSizes m old → AddsWalk w old new → HasBoth m plan old w → IsSolution m plan → MayGoOn m w new
 goes_on_if_solves m w old new plan model listed sizes a both sol =
     let values = sizes.values in
     let visits = sizes.visits in

@@ -1,6 +1,6 @@
 -- The feasible walks of all graphs of a model in one list, and what each uses and visits.
-use Rattle.std.proofs.Common.{◌≡◌, ◌≢◌, ℕ, suc, ◌+◌, ◌-◌, ◌<◌, ◌≤◌, List, [], ◌∷◌, ◌++◌, length, take, get_or, inl, inr, arith, sym, ◌∙◌, ap, subst, refl, All, Bool, true, false, cond, ◌||◌, ◌&&◌, eqb, Option, Some, None, IfSome}
-use Rattle.std.specs.Prelude.{count_by, flat_map, nat_lt, option_map, unwrap_or}
+use Rattle.std.proofs.Common.{◌≡◌, ◌≢◌, ℕ, suc, ◌+◌, ◌-◌, ◌<◌, ◌≤◌, List, [], ◌∷◌, ◌++◌, length, take, get_or, inl, inr, arith, sym, ◌∙◌, ap, subst, refl, All, Bool, true, false, cond, ◌||◌, eqb, Option, Some, None, IfSome}
+use Rattle.std.specs.Prelude.{flat_map}
 use Rattle.std.specs.List.{list_any}
 use Rattle.std.specs.Option.{option_to_list}
 use Rattle.std.specs.List.Sorted.{IsStrictlyIncreasing}
@@ -9,16 +9,17 @@ use Rattle.std.proofs.lemmas.Bool.Decides.{nat_tests}
 use Rattle.std.proofs.lemmas.List.{length_push, get_or_append_left, get_or_push, get_or-take, length-take-le, get_or_default, get_or_past}
 use Rattle.std.proofs.lemmas.List.Elements.{All-nil, All-cons, All-append, All-from_get_or}
 use Rattle.std.proofs.lemmas.List.Sums.{sum_by-cons, sum_by-append}
-use Rattle.path_graph.specs.Fit.{vertex_at}
+use Rattle.path_graph.specs.Visits.{visit_over, visits_along, is_visit, visit_count}
+use Rattle.path_graph.proofs.VisitLemmas.{visit_count-cons}
 use Rattle.path_graph.specs.Walk.{GraphParts, arc_at, IsFeasibleWalk}
 use Rattle.route_model.specs.Fit.{IsModel, GraphMapsFit, MapFits, GraphFits}
 use Rattle.route_model.specs.Parts.{ModelParts, graph_at, maps_in, mapped_vars}
-use Rattle.route_model.specs.Quantities.{uses_in, is_mapped, visits_in, enters, is_of}
+use Rattle.route_model.specs.Quantities.{uses_in, is_mapped, visits_in, is_of}
 use Rattle.vrp_cli.specs.declared.search.listed.ListedWalk.{ListedWalk}
 use Rattle.vrp_cli.specs.Partial.{IsWalkList}
 use Rattle.vrp_cli.specs.Listed.{vars_along, sets_along, IsListed, walk_at, ListsWalks, Appends}
 use Rattle.vrp_cli.specs.Totals.{times_in}
-use Rattle.vrp_cli.proofs.PartialLemmas.{leads_below}
+use Rattle.route_model.proofs.KnownLemmas.{arcs_there}
 
 -- what `walk_at` gives past the end
 abbrev pub no_walk : ListedWalk
@@ -31,10 +32,7 @@ graph_fits m g model l = model.fits.graphs.each g _ l
 pub graph_maps : (m : ModelParts) (g : ℕ) → IsModel m → g < length m.graphs → GraphMapsFit (length m.vars) (graph_at m g) (maps_in m.maps g)
 graph_maps m g model l = model.fits.maps.each g l
 
--- the arcs of a walk are there, and have maps
-pub arcs_there : (g : GraphParts) (arcs : List ℕ) → IsFeasibleWalk g arcs → All (λ a. a < length g.arcs) arcs
-arcs_there g arcs walk = leads_below g g.ends.source arcs g.ends.sink walk.walk
-
+-- the arcs of a walk have maps
 pub arcs_mapped : (m : ModelParts) (g : ℕ) (arcs : List ℕ) → IsModel m → g < length m.graphs → IsFeasibleWalk (graph_at m g) arcs → All (λ a. a < length (maps_in m.maps g)) arcs
 arcs_mapped m g arcs model l walk =
     subst (λ (n : ℕ). All (λ a. a < n) arcs) (sym (graph_maps m g model l).arcs) (arcs_there (graph_at m g) arcs walk)
@@ -190,22 +188,15 @@ vars_times m g j (a ∷ arcs) model l =
     omega (arith, both, here, rest, step)
 
 -- the packing sets along a walk are those that it visits, each as often as it does
-first_times : (o : Option ℕ) (s : ℕ) → times_in (option_to_list o) s ≡ cond (unwrap_or (option_map (λ i. eqb i s) o) false) 1 0
+first_times : (o : Option ℕ) (s : ℕ) → times_in (option_to_list o) s ≡ cond (is_visit s o) 1 0
 first_times None s = refl
 first_times (Some i) s = let c = sum_by-cons (λ (k : ℕ). cond (eqb k s) 1 0) i [] in omega (arith, c)
 
-pub sets_times : (g : GraphParts) (s : ℕ) (arcs : List ℕ) → All (λ a. a < length g.arcs) arcs → times_in (sets_along g arcs) s ≡ count_by (enters g s) arcs
-sets_times g s [] h = refl
-sets_times g s (a ∷ arcs) h =
-    let set = (vertex_at g.vertices (arc_at g.arcs a).head).set in
-    let rest = sets_times g s arcs (λ k d l. h (suc k) d (omega arith)) in
-    let there : nat_lt a (length g.arcs) ≡ true = let l = h 0 0 (omega arith) in grind (arith, nat_tests) in
-    let step = sum_by-cons (λ (b : ℕ). cond (enters g s b) 1 0) a arcs in
-    let here : ◌≡◌ {A = ℕ} (cond (enters g s a) 1 0) (cond (unwrap_or (option_map (λ i. eqb i s) set) false) 1 0) =
-    ap (λ (b : Bool). cond (b && unwrap_or (option_map (λ i. eqb i s) set) false) 1 0) there in
-    let both = sum_by-append (λ (i : ℕ). cond (eqb i s) 1 0) (option_to_list set) (sets_along g arcs) in
-    let first = first_times set s in
-    omega (arith, rest, step, here, both, first)
+sets_counted : (s : ℕ) (visits : List (Option ℕ)) → times_in (flat_map option_to_list visits) s ≡ visit_count s visits
+sets_counted s [] = refl
+sets_counted s (visit ∷ visits) =
+    let both = sum_by-append (λ (i : ℕ). cond (eqb i s) 1 0) (option_to_list visit) (flat_map option_to_list visits) in
+    omega (arith, sets_counted s visits, visit_count-cons s visit visits, both, first_times visit s)
 
 -- a walk counts once, in its graph
 pub graph_times : (g h : ℕ) (arcs : List ℕ) → times_in (g ∷ []) h ≡ is_of h g arcs
@@ -216,7 +207,7 @@ pub listed_vars : (m : ModelParts) (w : ListedWalk) (j : ℕ) → IsModel m → 
 listed_vars m w j model h = ap (λ (xs : List ℕ). times_in xs j) h.vars ∙ vars_times m w.graph j w.arcs model h.graph
 
 pub listed_sets : (m : ModelParts) (w : ListedWalk) (s : ℕ) → IsListed m w → times_in w.sets s ≡ visits_in m.graphs s w.graph w.arcs
-listed_sets m w s h = ap (λ (xs : List ℕ). times_in xs s) h.sets ∙ sets_times (graph_at m w.graph) s w.arcs (arcs_there (graph_at m w.graph) w.arcs h.walk)
+listed_sets m w s h = ap (λ (xs : List ℕ). times_in xs s) h.sets ∙ sets_counted s (visits_along (graph_at m w.graph) w.arcs)
 
 -- a number that P holds of where each of the numbers is of P, in lists that stand one after another
 all_flat : (P : ℕ → Type 0) (f : ℕ → List ℕ) (arcs : List ℕ) → ((k : ℕ) → k < length arcs → All P (f (get_or arcs k 0))) → All P (flat_map f arcs)
@@ -226,6 +217,10 @@ all_flat P f (a ∷ arcs) h = All-append P (f a) (flat_map f arcs) (h 0 (omega a
 all_first : (P : ℕ → Type 0) (o : Option ℕ) → IfSome o P → All P (option_to_list o)
 all_first P None p = All-nil P
 all_first P (Some i) p = All-cons P i [] p (All-nil P)
+
+all_visited : (P : ℕ → Type 0) (g : GraphParts) (arcs : List ℕ) → ((k : ℕ) → k < length arcs → All P (option_to_list (visit_over g (get_or arcs k 0)))) → All P (sets_along g arcs)
+all_visited P g [] h = All-nil P
+all_visited P g (a ∷ arcs) h = All-append P (option_to_list (visit_over g a)) (sets_along g arcs) (h 0 (omega arith)) (all_visited P g arcs (λ k l. h (suc k) (omega arith)))
 
 -- its variables and packing sets are declared
 pub listed_vars_below : (m : ModelParts) (w : ListedWalk) → IsModel m → IsListed m w → All (λ j. j < length m.vars) w.vars
@@ -242,6 +237,6 @@ listed_sets_below m w model h =
     let there = arcs_there g w.arcs h.walk in
     let fits = graph_fits m w.graph model h.graph in
     subst (λ (xs : List ℕ). All (λ s. s < m.sets) xs) (sym h.sets)
-    (all_flat (λ s. s < m.sets) (λ a. option_to_list (vertex_at g.vertices (arc_at g.arcs a).head).set) w.arcs (λ k l.
+    (all_visited (λ s. s < m.sets) g w.arcs (λ k l.
     let a = get_or w.arcs k 0 in
-    all_first (λ s. s < m.sets) (vertex_at g.vertices (arc_at g.arcs a).head).set (fits.declared (arc_at g.arcs a).head _ (fits.graph.fits.each_arc a _ (there k 0 l)).head)))
+    all_first (λ s. s < m.sets) (visit_over g a) (fits.declared (arc_at g.arcs a).head _ (fits.graph.fits.each_arc a _ (there k 0 l)).head)))

@@ -3,13 +3,14 @@ use Rattle.std.proofs.Common.{◌≡◌, ◌≢◌, ℕ, zero, suc, ◌+◌, ◌
 use Rattle.std.proofs.lemmas.Bool.{cases_lt}
 use Rattle.std.proofs.lemmas.Option.{get_or_from_slice_get, slice_get_within}
 use Rattle.std.proofs.lemmas.List.{length_push, same_from_push, get_or_append_left, get_or_push}
-use Rattle.std.proofs.lemmas.List.Elements.{All-nil, All-cons, All-push, All-weaker, Contains-append_left, Contains-push}
+use Rattle.std.proofs.lemmas.List.Elements.{All-nil, All-push, All-weaker, Contains-append_left, Contains-push}
 use Rattle.path_graph.specs.declared.parts.Values.{Values}
 use Rattle.path_graph.specs.Fit.{vertex_at}
 use Rattle.path_graph.specs.Walk.{GraphParts, IsGraph, arc_at, Leads, Passes, over_of, root_of, IsFeasibleWalk}
 use Rattle.path_graph.specs.Within.{AreWithin}
 use Rattle.path_graph.proofs.WalkLemmas.{passes_split, passes_join, within_at_end, root_is_within}
 use Rattle.path_graph.proofs.LevelLemmas.{walk_short}
+use Rattle.route_model.proofs.KnownLemmas.{leads_below}
 use Rattle.vrp_cli.specs.declared.search.walks.Listing.{Listing}
 use Rattle.vrp_cli.specs.Ahead.{IsAhead, work_left, walk_depth}
 use Rattle.vrp_cli.specs.Partial.{end_of, values_at_end, values_along, IsPartialWalk, GoesOn, IsListing, IsListingOf, IsWalkList, TakesBack}
@@ -46,11 +47,6 @@ length-values_along g value (x ∷ xs) = let h = length-values_along g (over_of 
 pub get_or-values_along : (g : GraphParts) (value : Values) (xs : List ℕ) (d : Values) → get_or (values_along g value xs) (length xs) d ≡ values_at_end g value xs
 get_or-values_along g value [] d = refl
 get_or-values_along g value (x ∷ xs) d = get_or-values_along g (over_of g value x) xs d
-
--- arcs that lead somewhere are there
-pub leads_below : (g : GraphParts) (v : ℕ) (xs : List ℕ) (w : ℕ) → Leads g v xs w → All (λ a. a < length g.arcs) xs
-leads_below g v [] w h = All-nil (λ a. a < length g.arcs)
-leads_below g v (a ∷ xs) w h = All-cons (λ b. b < length g.arcs) a xs h.0 (leads_below g (arc_at g.arcs a).head xs w h.2)
 
 -- a partial walk is not long
 pub not_deep : (g : GraphParts) (arcs : List ℕ) → IsGraph g → IsPartialWalk g arcs → length arcs < walk_depth

@@ -5,11 +5,12 @@ use Rattle.std.proofs.lemmas.List.{get_or-map, length-map}
 use Rattle.std.proofs.lemmas.List.Sums.{sum_by-cons, sum_by-append, sum_by_push}
 use Rattle.path_graph.proofs.SumLemmas.{sum_below-same}
 use Rattle.route_model.specs.declared.plan.Taken.{Taken}
+use Rattle.route_model.specs.declared.plan.Plan.{Plan}
 use Rattle.route_model.specs.Parts.{ModelParts, var_at, row_at, term_at, graph_at, taken_at}
-use Rattle.route_model.specs.First.{EachBelow}
+use Rattle.path_graph.specs.First.{EachBelow}
 use Rattle.route_model.specs.Fit.{IsModel, RowFits}
 use Rattle.route_model.specs.Quantities.{quantity, uses_in, value_of, visits_in, is_of, paths_of, row_sum, cost_of}
-use Rattle.route_model.specs.Solution.{IsPath, IsBetween, IsSolution}
+use Rattle.route_model.specs.Solution.{IsPath, ArePaths, IsBetween, IsSolution}
 use Rattle.vrp_cli.specs.declared.search.listed.ListedWalk.{ListedWalk}
 use Rattle.vrp_cli.specs.declared.search.totals.Totals.{Totals}
 use Rattle.vrp_cli.specs.Listed.{IsListed, walk_at, ListsAll}
@@ -23,7 +24,7 @@ use Rattle.vrp_cli.proofs.ListedLemmas.{listed_vars, listed_sets, graph_times}
 pub quantity-plan_of : (f : ℕ → List ℕ → ℕ) (walks : List ListedWalk) (xs : List ℕ) → quantity f (plan_of walks xs) ≡ sum_by (λ i. f (walk_at walks i).graph (walk_at walks i).arcs) xs
 quantity-plan_of f walks [] = refl
 quantity-plan_of f walks (i ∷ xs) =
-    let whole = sum_by-cons (λ (t : Taken). t.count * f t.graph t.arcs) (taken_once walks i) (plan_of walks xs) in
+    let whole = sum_by-cons (λ (t : Taken). t.count * f t.graph t.arcs) (taken_once walks i) (plan_of walks xs).paths in
     let sums = sum_by-cons (λ (k : ℕ). f (walk_at walks k).graph (walk_at walks k).arcs) i xs in
     let rest = quantity-plan_of f walks xs in
     omega (arith, whole, sums, rest)
@@ -37,11 +38,11 @@ quantity_more f walks xs ys =
     omega (arith, quantity-plan_of f walks (xs ++ ys), quantity-plan_of f walks xs, sum_by-append (λ (k : ℕ). f (walk_at walks k).graph (walk_at walks k).arcs) xs ys)
 
 -- the paths of the plan of a selection
-pub selected_path : (m : ModelParts) (walks : List ListedWalk) (xs : List ℕ) → ListsAll m walks → All (λ i. i < length walks) xs → EachBelow (length (plan_of walks xs)) (λ k. IsPath m (taken_at (plan_of walks xs) k))
+pub selected_path : (m : ModelParts) (walks : List ListedWalk) (xs : List ℕ) → ListsAll m walks → All (λ i. i < length walks) xs → ArePaths m (plan_of walks xs)
 selected_path m walks xs list numbers k l =
     let len = length-map xs (taken_once walks) in
     let within : k < length xs = omega (arith, len) in
-    let at : taken_at (plan_of walks xs) k ≡ taken_once walks (get_or xs k 0) = get_or-map (taken_once walks) xs k 0 _ within in
+    let at : taken_at (plan_of walks xs).paths k ≡ taken_once walks (get_or xs k 0) = get_or-map (taken_once walks) xs k 0 _ within in
     let is = list.listed (get_or xs k 0) _ (numbers k 0 within) in
     subst (IsPath m) (sym at) (record { graph = is.graph; count = omega arith; walk = is.walk })
 
@@ -123,7 +124,7 @@ has_both m walks xs i rest t model listed h =
     }
 
 -- totals that are the same
-pub totals_same : (m : ModelParts) (plan : List Taken) (old new : Totals) → AreSame old new → AreTotalsOf m plan old → AreTotalsOf m plan new
+pub totals_same : (m : ModelParts) (plan : Plan) (old new : Totals) → AreSame old new → AreTotalsOf m plan old → AreTotalsOf m plan new
 totals_same m plan old new s h = record {
   values = subst (λ (xs : List ℕ). AreAll (length m.vars) (value_of m plan) xs) (sym s.values) h.values;
   visits = subst (λ (xs : List ℕ). AreAll m.sets (λ k. quantity (visits_in m.graphs k) plan) xs) (sym s.visits) h.visits;
@@ -137,15 +138,15 @@ limits_same m old new s h = record {
   counts = λ g l. subst (λ (xs : List ℕ). slice_index xs g ≤ (graph_at m g).ends.high) (sym s.counts) (h.counts g l);
 }
 
-pub have_sizes : (m : ModelParts) (plan : List Taken) (t : Totals) → AreTotalsOf m plan t → HaveSizes m t
+pub have_sizes : (m : ModelParts) (plan : Plan) (t : Totals) → AreTotalsOf m plan t → HaveSizes m t
 have_sizes m plan t h = record { values = h.values.count; visits = h.visits.count; counts = h.counts.count }
 
-pub cost_at-same : (m : ModelParts) (plan : List Taken) (t : Totals) → AreTotalsOf m plan t → cost_at m.vars t.values.items ≡ cost_of m plan
+pub cost_at-same : (m : ModelParts) (plan : Plan) (t : Totals) → AreTotalsOf m plan t → cost_at m.vars t.values.items ≡ cost_of m plan
 cost_at-same m plan t h =
     sum_below-same (length m.vars) (λ j. (var_at m.vars j).cost *ℤ pos (slice_index t.values.items j)) (λ j. (var_at m.vars j).cost *ℤ pos (value_of m plan j))
     (λ j l. ap (λ (n : ℕ). (var_at m.vars j).cost *ℤ pos n) (h.values.each j l))
 
-row_same : (m : ModelParts) (plan : List Taken) (t : Totals) (i : ℕ) → IsModel m → i < length m.rows → AreTotalsOf m plan t → terms_sum_at t.values.items (row_at m.rows i).terms ≡ row_sum m plan (row_at m.rows i).terms
+row_same : (m : ModelParts) (plan : Plan) (t : Totals) (i : ℕ) → IsModel m → i < length m.rows → AreTotalsOf m plan t → terms_sum_at t.values.items (row_at m.rows i).terms ≡ row_sum m plan (row_at m.rows i).terms
 row_same m plan t i model l h =
     let row = row_at m.rows i in
     let fits : RowFits (length m.vars) row = model.fits.rows.each i _ l in
@@ -163,7 +164,7 @@ solves m walks xs t model list chosen h limits passes =
       rows = λ i l. subst (IsBetween (row_at m.rows i).low (row_at m.rows i).high) (row_same m (plan_of walks xs) t i model l h) (passes.rows i l);
     }
 
-pub passes_if_solves : (m : ModelParts) (plan : List Taken) (t : Totals) → IsModel m → AreTotalsOf m plan t → IsSolution m plan → TotalsSolve m t
+pub passes_if_solves : (m : ModelParts) (plan : Plan) (t : Totals) → IsModel m → AreTotalsOf m plan t → IsSolution m plan → TotalsSolve m t
 passes_if_solves m plan t model h s =
     record {
       enough = λ g l. let is = h.counts.each g l in omega (arith, is, (s.counts g l).0);

@@ -1,18 +1,18 @@
 -- The status and the text of an answer, and what one says of the input.
 use Rattle.std.specs.Prelude.{◌≡◌, ℕ, List, codes}
-use Rattle.route_model.specs.declared.plan.Taken.{Taken}
+use Rattle.route_model.specs.declared.plan.Plan.{Plan}
 use Rattle.route_model.specs.declared.plan.Verdict.{Verdict}
 use Rattle.route_model.specs.Parts.{ModelParts}
 use Rattle.route_model.specs.Quantities.{cost_of}
 use Rattle.route_model.specs.Solution.{IsSolution}
 use Rattle.route_model.specs.Verdicts.{IsVerdict}
-use Rattle.model_text.specs.declared.kind.TextFault.{TextFault}
+use Rattle.line_text.specs.declared.fault.TextFault.{TextFault}
 use Rattle.model_text.specs.Spelling.{Spells}
 use Rattle.model_text.specs.Refusal.{IsRefusedFor}
 use Rattle.model_text.specs.PathText.{SpellsPlan, SpellsNoPlan}
 use Rattle.model_text.specs.PathFault.{IsFirstPathFault}
 use Rattle.vrp_cli.specs.declared.answer.Answer.{Answer}
-use Rattle.vrp_cli.specs.declared.answer.Answer.TheVariants.{Optimal, Infeasible, Printed, Fine, Words, Model, Paths, Plan, ReadFailed, Memory, TooLong}
+use Rattle.vrp_cli.specs.declared.answer.Answer.TheVariants.{Optimal, Infeasible, Printed, Fine, RefusedWords, RefusedModel, RefusedPaths, RefusedPlan, FailedRead, OutOfMemory, TooLong}
 use Rattle.vrp_cli.specs.declared.command.Command.{Command}
 use Rattle.vrp_cli.specs.declared.command.Command.TheVariants.{Solve, Print, Eval}
 use Rattle.vrp_cli.specs.Commands.{model_part, path_part}
@@ -24,12 +24,12 @@ status_of (Optimal text) = 0
 status_of Infeasible = 1
 status_of (Printed text) = 0
 status_of (Fine text) = 0
-status_of Words = 2
-status_of (Model text) = 3
-status_of (Paths text) = 4
-status_of (Plan text) = 4
-status_of ReadFailed = 7
-status_of Memory = 9
+status_of RefusedWords = 2
+status_of (RefusedModel text) = 3
+status_of (RefusedPaths text) = 4
+status_of (RefusedPlan text) = 4
+status_of FailedRead = 7
+status_of OutOfMemory = 9
 status_of TooLong = 10
 
 abbrev pub text_of : Answer → List ℕ
@@ -37,12 +37,12 @@ text_of (Optimal text) = text
 text_of Infeasible = codes "infeasible\n"
 text_of (Printed text) = text
 text_of (Fine text) = text
-text_of Words = codes "refused words\n"
-text_of (Model text) = text
-text_of (Paths text) = text
-text_of (Plan text) = text
-text_of ReadFailed = codes "fault read\n"
-text_of Memory = codes "fault memory\n"
+text_of RefusedWords = codes "refused words\n"
+text_of (RefusedModel text) = text
+text_of (RefusedPaths text) = text
+text_of (RefusedPlan text) = text
+text_of FailedRead = codes "fault read\n"
+text_of OutOfMemory = codes "fault memory\n"
 text_of TooLong = codes "refused input too long\n"
 
 -- the text refuses an input, whose model text spells no model
@@ -51,27 +51,27 @@ RefusesModel command input text =
     (fault : TextFault) × IsRefusedFor fault (model_part command input) × (text ≡ refused_model_text fault)
 
 -- an answer to a plan
-abbrev pub AnswersPlan : ModelParts → List Taken → Answer → Type 0
+abbrev pub AnswersPlan : ModelParts → Plan → Answer → Type 0
 AnswersPlan m plan (Fine text) = IsSolution m plan × (text ≡ fine_text (cost_of m plan))
-AnswersPlan m plan (Plan text) =
+AnswersPlan m plan (RefusedPlan text) =
     (verdict : Verdict) × IsVerdict m plan verdict × (¬ (IsSolution m plan)) × (text ≡ refused_plan_text verdict)
 AnswersPlan m plan answer = ⊥
 
 -- an answer to a path text behind a model
 abbrev pub AnswersPaths : ModelParts → List ℕ → Answer → Type 0
-AnswersPaths m paths (Paths text) =
+AnswersPaths m paths (RefusedPaths text) =
     (fault : TextFault) × IsFirstPathFault paths fault × SpellsNoPlan paths × (text ≡ refused_paths_text fault)
-AnswersPaths m paths answer = (plan : List Taken) × SpellsPlan paths plan × AnswersPlan m plan answer
+AnswersPaths m paths answer = (plan : Plan) × SpellsPlan paths plan × AnswersPlan m plan answer
 
 -- an answer that a command has to an input that was read whole
 abbrev pub AnswersInput : Command → List ℕ → Answer → Type 0
 AnswersInput Solve input (Optimal text) = TellsLeast text input
 AnswersInput Solve input Infeasible = SpellsInfeasible input
-AnswersInput Solve input (Model text) = RefusesModel Solve input text
+AnswersInput Solve input (RefusedModel text) = RefusesModel Solve input text
 AnswersInput Solve input answer = ⊥
 AnswersInput Print input (Printed text) = TellsModel text input
-AnswersInput Print input (Model text) = RefusesModel Print input text
+AnswersInput Print input (RefusedModel text) = RefusesModel Print input text
 AnswersInput Print input answer = ⊥
-AnswersInput Eval input (Model text) = RefusesModel Eval input text
+AnswersInput Eval input (RefusedModel text) = RefusesModel Eval input text
 AnswersInput Eval input answer =
     (m : ModelParts) × Spells (model_part Eval input) m × AnswersPaths m (path_part input) answer

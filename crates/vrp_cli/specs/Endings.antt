@@ -1,19 +1,20 @@
 -- What was written where a run ends with a status, and which status is due.
 use Rattle.std.specs.Prelude.{◌≡◌, ℕ, ◌<◌, ◌≤◌, ◌⊎◌, ℤ, List, length, Option}
 use Rattle.std.specs.Io.KnownBytes.{Appends}
-use Rattle.route_model.specs.declared.plan.Taken.{Taken}
+use Rattle.route_model.specs.declared.plan.Plan.{Plan}
 use Rattle.route_model.specs.declared.plan.Verdict.{Verdict}
 use Rattle.route_model.specs.Parts.{ModelParts}
 use Rattle.route_model.specs.Solution.{IsSolution, HasNoSolution}
-use Rattle.model_text.specs.declared.kind.TextFault.{TextFault}
+use Rattle.line_text.specs.declared.fault.TextFault.{TextFault}
 use Rattle.model_text.specs.Spelling.{Spells, SpellsNothing}
 use Rattle.model_text.specs.Refusal.{IsRefusedFor}
 use Rattle.model_text.specs.PathText.{SpellsPlan, SpellsNoPlan}
 use Rattle.vrp_cli.specs.declared.command.Command.{Command}
 use Rattle.vrp_cli.specs.declared.command.Command.TheVariants.{Solve, Print, Eval}
+use Rattle.vrp_cli.specs.declared.limits.TheConstants.{MAX_INPUT}
 use Rattle.vrp_cli.specs.Commands.{model_part, path_part}
 use Rattle.vrp_cli.specs.Texts.{fine_text, refused_model_text, refused_paths_text, refused_plan_text}
-use Rattle.vrp_cli.specs.Headline.{input_limit, TellsLeast, TellsModel, SpellsSolution, ArePathsRefusedFor, IsPlanRefusedFor}
+use Rattle.vrp_cli.specs.Headline.{TellsLeast, TellsModel, SpellsSolution, ArePathsRefusedFor, IsPlanRefusedFor}
 
 -- what was written is the cost and the tidy path lines of a least solution of the model that the input spells
 abbrev pub WroteLeast : Option (List ℕ) → Option (List ℕ) → List ℕ → Type 0
@@ -41,16 +42,16 @@ WrotePlanFault old new input =
 abbrev pub IsDueOn : Command → ModelParts → List ℕ → ℕ → Type 0
 IsDueOn Solve m paths end =
     (HasNoSolution m → end ≡ 1)
-    × ((plan : List Taken) → IsSolution m plan → end ≡ 0)
+    × ((plan : Plan) → IsSolution m plan → end ≡ 0)
 IsDueOn Print m paths end = end ≡ 0
 IsDueOn Eval m paths end =
     (SpellsNoPlan paths → end ≡ 4)
-    × ((plan : List Taken) → SpellsPlan paths plan → ¬ (IsSolution m plan) → end ≡ 4)
-    × ((plan : List Taken) → SpellsPlan paths plan → IsSolution m plan → end ≡ 0)
+    × ((plan : Plan) → SpellsPlan paths plan → ¬ (IsSolution m plan) → end ≡ 4)
+    × ((plan : Plan) → SpellsPlan paths plan → IsSolution m plan → end ≡ 0)
 
 -- the status that is due on an input: by its length, then by whether it spells a model, then by the command
 abbrev pub IsDue : Command → ℕ → List ℕ → Type 0
 IsDue command end input =
-    (input_limit < length input → end ≡ 10)
-    × (length input ≤ input_limit → SpellsNothing (model_part command input) → end ≡ 3)
-    × ((m : ModelParts) → length input ≤ input_limit → Spells (model_part command input) m → IsDueOn command m (path_part input) end)
+    (MAX_INPUT < length input → end ≡ 10)
+    × (length input ≤ MAX_INPUT → SpellsNothing (model_part command input) → end ≡ 3)
+    × ((m : ModelParts) → length input ≤ MAX_INPUT → Spells (model_part command input) m → IsDueOn command m (path_part input) end)

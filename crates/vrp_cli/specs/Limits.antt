@@ -5,9 +5,9 @@ use Rattle.path_graph.specs.Sums.{sum_below}
 use Rattle.route_model.specs.declared.parts.Var.{Var}
 use Rattle.route_model.specs.declared.parts.Row.{Row}
 use Rattle.route_model.specs.declared.parts.RowTerm.{RowTerm}
-use Rattle.route_model.specs.declared.plan.Taken.{Taken}
+use Rattle.route_model.specs.declared.plan.Plan.{Plan}
 use Rattle.route_model.specs.Parts.{ModelParts, var_at, row_at, term_at, graph_at}
-use Rattle.route_model.specs.First.{EachBelow}
+use Rattle.path_graph.specs.First.{EachBelow}
 use Rattle.route_model.specs.Quantities.{value_of, visits_of, paths_of}
 use Rattle.route_model.specs.Solution.{IsBetween, IsSolution}
 use Rattle.vrp_cli.specs.declared.search.listed.ListedWalk.{ListedWalk}
@@ -15,14 +15,14 @@ use Rattle.vrp_cli.specs.declared.search.totals.Totals.{Totals}
 use Rattle.vrp_cli.specs.Totals.{times_in}
 
 -- a plan has at least these totals and those of a walk together
-pub record HasBoth (m : ModelParts) (plan : List Taken) (t : Totals) (w : ListedWalk) : Type 0 where
+pub record HasBoth (m : ModelParts) (plan : Plan) (t : Totals) (w : ListedWalk) : Type 0 where
   pub values : EachBelow (length m.vars) (λ j. slice_index t.values.items j + times_in w.vars j ≤ value_of m plan j)
   pub visits : EachBelow m.sets (λ s. slice_index t.visits.items s + times_in w.sets s ≤ visits_of m plan s)
   pub counts : EachBelow (length m.graphs) (λ g. slice_index t.counts.items g + times_in (w.graph ∷ []) g ≤ paths_of plan g)
 
 -- no solution has as much
 abbrev pub IsCut : ModelParts → Totals → ListedWalk → Type 0
-IsCut m t w = (plan : List Taken) → HasBoth m plan t w → IsSolution m plan → ⊥
+IsCut m t w = (plan : Plan) → HasBoth m plan t w → IsSolution m plan → ⊥
 
 -- a variable is not above its box
 abbrev pub IsNotAbove : List Var → List ℕ → ℕ → Type 0

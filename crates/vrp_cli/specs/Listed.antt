@@ -1,9 +1,9 @@
 -- The feasible walks of all graphs of a model, in one list.
 use Rattle.std.specs.Prelude.{◌≡◌, ◌≢◌, ℕ, ◌+◌, ◌<◌, List, [], All, length, flat_map, slice_index_or}
 use Rattle.std.specs.Option.{option_to_list}
-use Rattle.path_graph.specs.Fit.{vertex_at}
-use Rattle.path_graph.specs.Walk.{GraphParts, arc_at, IsFeasibleWalk}
-use Rattle.route_model.specs.First.{EachBelow}
+use Rattle.path_graph.specs.Visits.{visits_along}
+use Rattle.path_graph.specs.Walk.{GraphParts, IsFeasibleWalk}
+use Rattle.path_graph.specs.First.{EachBelow}
 use Rattle.route_model.specs.Parts.{ModelParts, graph_at, maps_in}
 use Rattle.vrp_cli.specs.declared.search.listed.ListedWalk.{ListedWalk}
 
@@ -11,9 +11,9 @@ use Rattle.vrp_cli.specs.declared.search.listed.ListedWalk.{ListedWalk}
 abbrev pub vars_along : List (List ℕ) → List ℕ → List ℕ
 vars_along maps arcs = flat_map (λ a. slice_index_or maps a []) arcs
 
--- the packing sets that arcs enter, one arc after another
+-- the packing sets that arcs visit, in order, without the visits to no set
 abbrev pub sets_along : GraphParts → List ℕ → List ℕ
-sets_along g arcs = flat_map (λ a. option_to_list (vertex_at g.vertices (arc_at g.arcs a).head).set) arcs
+sets_along g arcs = flat_map option_to_list (visits_along g arcs)
 
 -- a feasible walk of a graph of the model, with its variables and its packing sets
 pub record IsListed (m : ModelParts) (w : ListedWalk) : Type 0 where
@@ -43,7 +43,7 @@ pub record ListsWalks (m : ModelParts) (n : ℕ) (walks : List ListedWalk) : Typ
 abbrev pub ListsAll : ModelParts → List ListedWalk → Type 0
 ListsAll m walks = ListsWalks m (length m.graphs) walks
 
--- the walks of a graph were put last
+-- the walks of a graph were appended
 pub record Appends (m : ModelParts) (g : ℕ) (walks : List (List ℕ)) (old new : List ListedWalk) : Type 0 where
   pub count : length new ≡ length old + length walks
   pub kept : EachBelow (length old) (λ i. walk_at new i ≡ walk_at old i)

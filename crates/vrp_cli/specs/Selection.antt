@@ -2,7 +2,8 @@
 use Rattle.std.specs.Prelude.{◌≡◌, ℕ, ◌+◌, ◌<◌, ◌≤◌, ℤ, ◌≤ℤ◌, List, [], ◌∷◌, length, map, sum_by, All, Option, None, Some, IfSome, ◌⊎◌}
 use Rattle.path_graph.specs.Walk.{GraphParts}
 use Rattle.route_model.specs.declared.plan.Taken.{Taken}
-use Rattle.route_model.specs.Parts.{ModelParts}
+use Rattle.route_model.specs.declared.plan.Plan.{Plan}
+use Rattle.route_model.specs.Parts.{ModelParts, plan_with}
 use Rattle.route_model.specs.Quantities.{cost_of}
 use Rattle.route_model.specs.Solution.{IsSolution}
 use Rattle.vrp_cli.specs.declared.search.listed.ListedWalk.{ListedWalk}
@@ -19,8 +20,8 @@ abbrev pub taken_once : List ListedWalk → ℕ → Taken
 taken_once walks i =
     record { graph = (walk_at walks i).graph; count = 1; arcs = (walk_at walks i).arcs }
 
-abbrev pub plan_of : List ListedWalk → List ℕ → List Taken
-plan_of walks chosen = map (taken_once walks) chosen
+abbrev pub plan_of : List ListedWalk → List ℕ → Plan
+plan_of walks chosen = plan_with (map (taken_once walks) chosen)
 
 -- the most paths that a plan may have
 abbrev pub most_paths : List GraphParts → ℕ

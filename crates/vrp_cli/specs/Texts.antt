@@ -2,20 +2,21 @@
 use Rattle.std.specs.Prelude.{ℕ, ℤ, List, [], ◌∷◌, ◌++◌, codes}
 use Rattle.std.specs.List.{flat_map}
 use Rattle.std.specs.Fmt.{decimal, signed_decimal}
-use Rattle.route_model.specs.declared.plan.Taken.{Taken}
+use Rattle.route_model.specs.declared.plan.Plan.{Plan}
 use Rattle.route_model.specs.declared.plan.Verdict.{Verdict}
 use Rattle.route_model.specs.declared.plan.Verdict.TheVariants.{Fine, NotWalk, Count, Packing, VarBox, RowBox}
-use Rattle.model_text.specs.declared.kind.TextFault.{TextFault}
-use Rattle.model_text.specs.Kinds.{kind_number, kind_name}
-use Rattle.model_text.specs.Lines.{line, path_line}
+use Rattle.line_text.specs.declared.fault.TextFault.{TextFault}
+use Rattle.line_text.specs.Faults.{kind_number, kind_name}
+use Rattle.line_text.specs.Spelling.{line}
+use Rattle.model_text.specs.PathText.{path_line}
 
 -- a word and a cost
 abbrev pub cost_line : List ℕ → ℤ → List ℕ
 cost_line word cost = line word (signed_decimal cost ∷ [])
 
 -- `optimal COST`, then the lines of the paths
-abbrev pub optimal_text : ℤ → List Taken → List ℕ
-optimal_text cost plan = cost_line (codes "optimal") cost ++ flat_map path_line plan
+abbrev pub optimal_text : ℤ → Plan → List ℕ
+optimal_text cost plan = cost_line (codes "optimal") cost ++ flat_map path_line plan.paths
 
 -- `fine COST`
 abbrev pub fine_text : ℤ → List ℕ

@@ -1,8 +1,8 @@
 -- The totals of a selection as lists: values of the variables, visits of the packing sets, paths of the graphs.
 use Rattle.std.specs.Prelude.{◌≡◌, ℕ, ◌+◌, ◌<◌, ◌≤◌, ◌^◌, List, [], ◌∷◌, length, All, count_by, ◌==◌, slice_index}
-use Rattle.route_model.specs.declared.plan.Taken.{Taken}
+use Rattle.route_model.specs.declared.plan.Plan.{Plan}
 use Rattle.route_model.specs.Parts.{ModelParts}
-use Rattle.route_model.specs.First.{EachBelow}
+use Rattle.path_graph.specs.First.{EachBelow}
 use Rattle.route_model.specs.Quantities.{value_of, visits_of, paths_of}
 use Rattle.vrp_cli.specs.declared.search.listed.ListedWalk.{ListedWalk}
 use Rattle.vrp_cli.specs.declared.search.totals.Totals.{Totals}
@@ -17,7 +17,7 @@ pub record AreAll (n : ℕ) (f : ℕ → ℕ) (xs : List ℕ) : Type 0 where
   pub each : EachBelow n (λ k. slice_index xs k ≡ f k)
 
 -- the totals are those of a plan
-pub record AreTotalsOf (m : ModelParts) (plan : List Taken) (t : Totals) : Type 0 where
+pub record AreTotalsOf (m : ModelParts) (plan : Plan) (t : Totals) : Type 0 where
   pub values : AreAll (length m.vars) (value_of m plan) t.values.items
   pub visits : AreAll m.sets (visits_of m plan) t.visits.items
   pub counts : AreAll (length m.graphs) (paths_of plan) t.counts.items

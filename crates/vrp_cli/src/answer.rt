@@ -15,16 +15,16 @@ pub(crate) enum Answer {
     Printed(List<u8>),
     /// A plan is a solution, by the text of its cost.
     Fine(LineWriter),
-    /// The words are not taken.
-    Words,
+    /// The words name no command.
+    RefusedWords,
     /// The model text is refused, by the text of its fault.
-    Model(LineWriter),
+    RefusedModel(LineWriter),
     /// The path text is refused, by the text of its fault.
-    Paths(LineWriter),
+    RefusedPaths(LineWriter),
     /// A plan is no solution, by the text of its fault.
-    Plan(LineWriter),
-    ReadFailed,
-    Memory,
+    RefusedPlan(LineWriter),
+    FailedRead,
+    OutOfMemory,
     TooLong,
 }
 
@@ -38,12 +38,12 @@ impl Answer {
             Answer::Infeasible => 1,
             Answer::Printed(_) => 0,
             Answer::Fine(_) => 0,
-            Answer::Words => 2,
-            Answer::Model(_) => 3,
-            Answer::Paths(_) => 4,
-            Answer::Plan(_) => 4,
-            Answer::ReadFailed => 7,
-            Answer::Memory => 9,
+            Answer::RefusedWords => 2,
+            Answer::RefusedModel(_) => 3,
+            Answer::RefusedPaths(_) => 4,
+            Answer::RefusedPlan(_) => 4,
+            Answer::FailedRead => 7,
+            Answer::OutOfMemory => 9,
             Answer::TooLong => 10,
         }
     }
@@ -57,12 +57,12 @@ impl Answer {
             Answer::Infeasible => b"infeasible\n",
             Answer::Printed(text) => text.as_slice(),
             Answer::Fine(text) => text.as_slice(),
-            Answer::Words => b"refused words\n",
-            Answer::Model(text) => text.as_slice(),
-            Answer::Paths(text) => text.as_slice(),
-            Answer::Plan(text) => text.as_slice(),
-            Answer::ReadFailed => b"fault read\n",
-            Answer::Memory => b"fault memory\n",
+            Answer::RefusedWords => b"refused words\n",
+            Answer::RefusedModel(text) => text.as_slice(),
+            Answer::RefusedPaths(text) => text.as_slice(),
+            Answer::RefusedPlan(text) => text.as_slice(),
+            Answer::FailedRead => b"fault read\n",
+            Answer::OutOfMemory => b"fault memory\n",
             Answer::TooLong => b"refused input too long\n",
         }
     }

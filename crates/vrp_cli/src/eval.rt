@@ -20,7 +20,9 @@ pub(crate) fn eval(alloc: Global, input: &[u8]) -> Result<Answer, NoMemory>
     let end = model_end(input) as usize;
     match read_model(alloc, &input[..end]) {
         Ok(model) => eval_paths(alloc, &model, &input[end..]),
-        Err(ReadError::Text(fault)) => Ok(Answer::Model(fault_line(alloc, b"model", fault)?)),
+        Err(ReadError::Text(fault)) => Ok(Answer::RefusedModel(fault_line(
+            alloc, b"model", fault,
+        )?)),
         Err(ReadError::Memory) => Err(NoMemory),
     }
 }
@@ -32,19 +34,21 @@ fn eval_paths(alloc: Global, model: &Model, paths: &[u8]) -> Result<Answer, NoMe
 {
     match read_plan(alloc, paths) {
         Ok(plan) => eval_plan(alloc, model, &plan),
-        Err(ReadError::Text(fault)) => Ok(Answer::Paths(fault_line(alloc, b"paths", fault)?)),
+        Err(ReadError::Text(fault)) => Ok(Answer::RefusedPaths(fault_line(
+            alloc, b"paths", fault,
+        )?)),
         Err(ReadError::Memory) => Err(NoMemory),
     }
 }
 
 /// What is answered to a plan.
 fn eval_plan(alloc: Global, model: &Model, plan: &Plan) -> Result<Answer, NoMemory>
-    requires { IsCounted plan.now.paths }
-    ensures { IfOk result (AnswersPlan model.now plan.now.paths) }
+    requires { IsCounted plan.now }
+    ensures { IfOk result (AnswersPlan model.now plan.now) }
 {
     match judge(model, plan) {
         Verdict::Fine { cost } => Ok(Answer::Fine(cost_text(alloc, cost)?)),
-        verdict => Ok(Answer::Plan(plan_fault_line(alloc, verdict)?)),
+        verdict => Ok(Answer::RefusedPlan(plan_fault_line(alloc, verdict)?)),
     }
 }
 

@@ -5,6 +5,7 @@
 mod answer;
 mod command;
 mod eval;
+mod limits;
 mod print;
 mod run;
 mod search;
@@ -12,5 +13,6 @@ mod solve;
 mod texts;
 
 pub use command::Command;
+pub use limits::MAX_INPUT;
 pub use run::{Status, run_vrp};
 pub use search::{Best, least_plan};

@@ -15,7 +15,9 @@ pub(crate) fn print(alloc: Global, input: &[u8]) -> Result<Answer, NoMemory>
 {
     match read_model(alloc, input) {
         Ok(model) => Ok(Answer::Printed(print_model(alloc, &model)?)),
-        Err(ReadError::Text(fault)) => Ok(Answer::Model(fault_line(alloc, b"model", fault)?)),
+        Err(ReadError::Text(fault)) => Ok(Answer::RefusedModel(fault_line(
+            alloc, b"model", fault,
+        )?)),
         Err(ReadError::Memory) => Err(NoMemory),
     }
 }

@@ -4,22 +4,20 @@ ghost use Rattle.vrp_io.specs.Counts.{Rose};
 ghost use Rattle.vrp_io.specs.Bytes.{TookExactly};
 ghost use Rattle.vrp_cli.specs.declared.command.Command.{Command};
 ghost use Rattle.vrp_cli.specs.Commands.{Takes, AreTaken, model_part};
-ghost use Rattle.vrp_cli.specs.Headline.{input_limit, Answers, Runs, SpellsInfeasible};
+ghost use Rattle.vrp_cli.specs.Headline.{Answers, Runs, SpellsInfeasible, stream};
 ghost use Rattle.vrp_cli.specs.Endings.{WroteLeast, WroteModel, WroteCost, WroteFault, WrotePlanFault, IsDue};
 ghost use Rattle.vrp_cli.specs.Answer.{status_of, text_of, AnswersInput};
 
 use crate::answer::Answer;
 use crate::command::{Command, command_of};
 use crate::eval::eval;
+use crate::limits::MAX_INPUT;
 use crate::print::print;
 use crate::solve::solve;
 use path_graph::NoMemory;
 use std::alloc::Global;
 use std::thread::Threads;
 use vrp_io::{Gate, ReadFault, Sink, Source, read_all, write_all};
-
-/// The most bytes that an input has.
-const INPUT_LIMIT: u32 = 67_108_864;
 
 /// How a run ended: the number that the program ends with.
 ///
@@ -44,8 +42,9 @@ pub fn run_vrp<R: Threads + Sync, S: Source, K: Sink, G: Gate + Sync>(
 ) -> Status
     // The whole story: an answer to the words and the input, and how it was told.
     ensures run { Runs (map string_bytes words.now)
-        (S.left source.old) (S.left source.new) (S.faults source.old) (S.faults source.new)
-        (K.written sink.old) (K.written sink.new) (K.faults sink.old) (K.faults sink.new) result.number }
+        (stream (S.left source.old) (S.faults source.old)) (stream (S.left source.new) (S.faults source.new))
+        (stream (K.written sink.old) (K.faults sink.old)) (stream (K.written sink.new) (K.faults sink.new))
+        result.number }
 
     // What each status says.
     ensures optimal { Takes (map string_bytes words.now) Command.Solve → result.number ≡ 0
@@ -67,7 +66,7 @@ pub fn run_vrp<R: Threads + Sync, S: Source, K: Sink, G: Gate + Sync>(
     ensures read { result.number ≡ 7 → Rose (S.faults source.old) (S.faults source.new) }
     ensures write { result.number ≡ 8 → Rose (K.faults sink.old) (K.faults sink.new) }
     ensures long { result.number ≡ 10 →
-        TookExactly (S.left source.old) (S.left source.new) (input_limit + 1) }
+        TookExactly (S.left source.old) (S.left source.new) (MAX_INPUT + 1) }
 
     // When each must come, where no fault rises and memory is not wanting.
     ensures unread { (AreTaken (map string_bytes words.now) → ⊥) →
@@ -88,8 +87,9 @@ fn answer_words<S: Source, K: Sink>(
     sink: &mut K,
 ) -> Status
     ensures run { Runs (map string_bytes words.now)
-        (S.left source.old) (S.left source.new) (S.faults source.old) (S.faults source.new)
-        (K.written sink.old) (K.written sink.new) (K.faults sink.old) (K.faults sink.new) result.number }
+        (stream (S.left source.old) (S.faults source.old)) (stream (S.left source.new) (S.faults source.new))
+        (stream (K.written sink.old) (K.faults sink.old)) (stream (K.written sink.new) (K.faults sink.new))
+        result.number }
     ensures unread { (AreTaken (map string_bytes words.now) → ⊥) → source.new ≡ source.old }
 {
     let answer = decide(alloc, words, source);
@@ -104,21 +104,21 @@ fn answer_words<S: Source, K: Sink>(
 /// The answer to the words and the input.
 fn decide<S: Source>(alloc: Global, words: &[String], source: &mut S) -> Answer
     ensures answers { Answers (map string_bytes words.now)
-        (S.left source.old) (S.left source.new) (S.faults source.old) (S.faults source.new)
+        (stream (S.left source.old) (S.faults source.old)) (stream (S.left source.new) (S.faults source.new))
         (status_of result) (text_of result) }
     ensures unread { (AreTaken (map string_bytes words.now) → ⊥) → source.new ≡ source.old }
 {
     let Some(command) = command_of(words) else {
-        return Answer::Words;
+        return Answer::RefusedWords;
     };
-    match read_all(alloc, source, INPUT_LIMIT) {
+    match read_all(alloc, source, MAX_INPUT) {
         Ok(input) => match answer_input(alloc, command, input.as_slice()) {
             Ok(answer) => answer,
-            Err(_) => Answer::Memory,
+            Err(_) => Answer::OutOfMemory,
         },
-        Err(ReadFault::Read) => Answer::ReadFailed,
+        Err(ReadFault::Read) => Answer::FailedRead,
         Err(ReadFault::TooLong) => Answer::TooLong,
-        Err(ReadFault::Memory) => Answer::Memory,
+        Err(ReadFault::Memory) => Answer::OutOfMemory,
     }
 }
 

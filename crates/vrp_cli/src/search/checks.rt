@@ -1,10 +1,10 @@
 ghost use Rattle.std.specs.Prelude.{◌≡◌, ◌↔◌, IsTrue, ◌<◌, ◌≤◌, ◌^◌, pos, ◌*ℤ◌, ◌≤ℤ◌, All, length};
 ghost use Rattle.path_graph.specs.Within.{IsWithin};
-ghost use Rattle.route_model.specs.First.{EachBelow};
+ghost use Rattle.path_graph.specs.First.{EachBelow};
 ghost use Rattle.route_model.specs.Fit.{VarFits, cost_range_of, cost_range};
 ghost use Rattle.vrp_cli.specs.Limits.{IsNotAbove, AreNotAboveAmong, AreOnceAmong, AreNotBelow, cost_at};
 
-use route_model::{Var, added, product};
+use route_model::{Var, product, sum_of};
 
 /// Whether none of these variables is above its box.
 pub(super) fn vars_fit(vars: &[Var], values: &[u64], used: &[u32]) -> bool
@@ -68,7 +68,7 @@ pub(super) fn cost(vars: &[Var], values: &[u64]) -> i64
 {
     let mut total = 0;
     for (j, var) in vars.iter().enumerate() {
-        total = added(total, var_cost(var, values[j]));
+        total = sum_of(total, var_cost(var, values[j]));
     }
     total
 }

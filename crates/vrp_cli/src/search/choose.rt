@@ -179,7 +179,7 @@ fn best_choice(
 /// The plan of chosen walks, one path for each.
 fn plan_of(alloc: Global, walks: &List<ListedWalk>, chosen: &[usize]) -> Result<Plan, NoMemory>
     requires { All (λ i. i < length walks.now) chosen.now }
-    ensures { IfOk result (λ plan. plan.paths ≡ plan_of walks.now chosen.now) }
+    ensures { IfOk result (λ plan. plan ≡ plan_of walks.now chosen.now) }
 {
     let mut paths = Vec::new(alloc);
     for i in chosen {
@@ -201,8 +201,8 @@ fn plan_of(alloc: Global, walks: &List<ListedWalk>, chosen: &[usize]) -> Result<
 /// The time grows with the number of feasible walks to the power of the paths that there may be.
 pub fn least_plan(alloc: Global, model: &Model) -> Result<Option<Best>, NoMemory>
     ensures least { IfOk result (λ found. MatchOption found (HasNoSolution model.now)
-        (λ best. IsLeastPlan model.now best.cost best.plan.paths)) }
-    ensures counted { IfOk result (λ found. IfSome found (λ best. IsCounted best.plan.paths)) }
+        (λ best. IsLeastPlan model.now best.cost best.plan)) }
+    ensures counted { IfOk result (λ found. IfSome found (λ best. IsCounted best.plan)) }
 {
     let most = path_total(model.graphs.as_slice());
     let walks = list_all(alloc, model)?;

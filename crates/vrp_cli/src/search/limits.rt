@@ -1,5 +1,5 @@
 ghost use Rattle.std.specs.Prelude.{◌≡◌, ◌↔◌, ◌≤◌, ◌<◌, IsTrue, length, slice_index, MatchBool};
-ghost use Rattle.route_model.specs.First.{EachBelow};
+ghost use Rattle.path_graph.specs.First.{EachBelow};
 ghost use Rattle.route_model.specs.Fit.{IsModel};
 ghost use Rattle.route_model.specs.Parts.{graph_at, graph_in};
 ghost use Rattle.vrp_cli.specs.Listed.{IsListed};

@@ -1,7 +1,7 @@
 ghost use Rattle.std.specs.Prelude.{◌≡◌, ◌<◌, ◌++◌, All, List, length, IfOk, OnOk};
 ghost use Rattle.std.specs.Option.{option_to_list};
-ghost use Rattle.path_graph.specs.Fit.{vertex_at};
-ghost use Rattle.path_graph.specs.Walk.{arc_at, IsFeasibleWalk};
+ghost use Rattle.path_graph.specs.Visits.{visit_over};
+ghost use Rattle.path_graph.specs.Walk.{IsFeasibleWalk};
 ghost use Rattle.route_model.specs.Fit.{IsModel};
 ghost use Rattle.route_model.specs.Parts.{graph_at};
 ghost use Rattle.vrp_cli.specs.Listed.{vars_along, sets_along, IsListed, ListsAll, Appends};
@@ -34,11 +34,11 @@ fn vars_of(alloc: Global, maps: &List<List<u32>>, arcs: &[u32]) -> Result<List<u
     Ok(List::from_vec(vars))
 }
 
-/// Puts the packing set that an arc enters last, if it enters one.
+/// Appends the packing set that an arc visits, if it visits one.
 fn push_set(g: &Graph, arc: u32, sets: &mut Vec<u32>) -> Result<(), NoMemory>
     requires { arc < length g.now.arcs }
     ensures { OnOk result (sets.new.items ≡ sets.old.items
-        ++ option_to_list (vertex_at g.now.vertices (arc_at g.now.arcs arc).head).set) }
+        ++ option_to_list (visit_over g.now arc)) }
 {
     match g.vertex(g.arc(arc).head).set {
         None => {}
@@ -82,7 +82,7 @@ fn listed(
     })
 }
 
-/// Puts the walks of a graph last.
+/// Appends the walks of a graph.
 fn append(
     alloc: Global,
     model: &Model,

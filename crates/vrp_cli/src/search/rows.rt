@@ -1,11 +1,11 @@
 ghost use Rattle.std.specs.Prelude.{◌≡◌, ◌↔◌, IsTrue, ◌<◌, ◌≤◌, pos, ◌*ℤ◌, All, length, slice_index};
 ghost use Rattle.path_graph.specs.Within.{IsWithin};
-ghost use Rattle.route_model.specs.First.{EachBelow};
+ghost use Rattle.path_graph.specs.First.{EachBelow};
 ghost use Rattle.route_model.specs.Fit.{VarFits, TermFits, RowFits};
 ghost use Rattle.route_model.specs.Parts.{row_at, var_at};
 ghost use Rattle.vrp_cli.specs.Limits.{terms_sum_at, RowHoldsAt, least_term, greatest_term, least_sum, greatest_sum, RowCanHold};
 
-use route_model::{Row, RowTerm, Var, added, is_between, product, product_ends};
+use route_model::{Row, RowTerm, Var, is_between, product, product_ends, sum_of};
 
 /// What a term adds to its row.
 fn term_total(term: &RowTerm, values: &[u64]) -> i64
@@ -26,7 +26,7 @@ fn terms_total(terms: &[RowTerm], values: &[u64]) -> i64
 {
     let mut total = 0;
     for term in terms {
-        total = added(total, term_total(term, values));
+        total = sum_of(total, term_total(term, values));
     }
     total
 }
@@ -99,8 +99,8 @@ fn sum_ends(terms: &[RowTerm], vars: &[Var], values: &[u64]) -> (i64, i64)
     let mut greatest = 0;
     for term in terms {
         let ends = term_ends(term, vars, values);
-        least = added(least, ends.0);
-        greatest = added(greatest, ends.1);
+        least = sum_of(least, ends.0);
+        greatest = sum_of(greatest, ends.1);
     }
     (least, greatest)
 }

@@ -1,4 +1,5 @@
 ghost use Rattle.std.specs.Prelude.{◌≡◌, ◌<◌, [], All, length, IfOk};
+ghost use Rattle.route_model.specs.Parts.{plan_with};
 ghost use Rattle.vrp_cli.specs.Totals.{times_in, AreTotalsOf, HaveUsed, HaveRoom, HaveWalk, HasRoomFor, HasAtLeast, GrowsBy, AddsWalk};
 
 use crate::search::listed::ListedWalk;
@@ -17,7 +18,7 @@ pub(super) struct Totals {
 
 /// The totals of no walk.
 pub(super) fn no_totals(alloc: Global, model: &Model) -> Result<Totals, NoMemory>
-    ensures { IfOk result (AreTotalsOf model.now []) }
+    ensures { IfOk result (AreTotalsOf model.now (plan_with [])) }
 {
     let values = vec![in alloc; 0; model.vars.len()]?;
     let visits = vec![in alloc; 0; model.sets as usize]?;

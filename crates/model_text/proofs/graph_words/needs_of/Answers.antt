@@ -3,9 +3,10 @@ use Rattle.std.proofs.lemmas.Int.{to_z-of_z}
 use Rattle.std.proofs.lemmas.List.{take_more_set, take_all}
 use Rattle.vrp_lex.specs.Text.{words_of}
 use Rattle.path_graph.specs.Walk.{positions}
-use Rattle.model_text.specs.Wanted.{for_each}
+use Rattle.line_text.specs.Words.{for_each}
 use Rattle.model_text.specs.LineWords.{need_at}
-use Rattle.model_text.proofs.WantedLemmas.{each_left-begin, each_left-more, each_left-fault, each_left-end, positions_from, hands_on}
+use Rattle.line_text.proofs.ItemLemmas.{each_left-begin, each_left-more, each_left-fault, each_left-end, hands_on}
+use Rattle.model_text.proofs.PositionLemmas.{positions_from}
 use Rattle.model_text.proofs.graph_words.needs_of.Goals as goal
 
 pub loop-place-init : goal.loop-place-init

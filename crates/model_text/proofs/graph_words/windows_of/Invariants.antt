@@ -1,9 +1,9 @@
 use Rattle.std.proofs.Common.{◌≡◌, take, drop, length}
 use Rattle.vrp_lex.specs.Text.{words_of}
 use Rattle.path_graph.specs.Walk.{positions}
-use Rattle.model_text.specs.Wanted.{for_each}
+use Rattle.line_text.specs.Words.{for_each}
 use Rattle.model_text.specs.LineWords.{window_at}
-use Rattle.model_text.proofs.WantedLemmas.{EachLeft}
+use Rattle.line_text.proofs.ItemLemmas.{EachLeft}
 use Rattle.model_text.proofs.graph_words.windows_of.Given as goal
 
 abbrev pub invariant-loop-place : goal.invariant-loop-place

@@ -1,6 +1,6 @@
 use Rattle.std.proofs.Common.{◌≡◌, ◌++◌, take}
 use Rattle.std.specs.List.{flat_map}
-use Rattle.model_text.specs.Lines.{path_line}
+use Rattle.model_text.specs.PathText.{path_line}
 use Rattle.model_text.proofs.plan_print.print_paths.Given as goal
 
 abbrev pub invariant-loop-path : goal.invariant-loop-path

@@ -1,4 +1,4 @@
-use Rattle.model_text.proofs.PlanTextLemmas.{plan_text_spells}
+use Rattle.model_text.proofs.PlanLaws.{plan_text_spells}
 use Rattle.model_text.proofs.plan_print.print_plan.Goals as goal
 
 pub returns-clause-spells : goal.returns-clause-spells

@@ -8,8 +8,8 @@ pub returns : goal.returns
 returns c =
     let best = rw c.in-Some.is at c.in_ok-best.ensures.least in
     let fits : FitsSigned w64 c.in-Some.best.cost = search rules in
-    let told = c.in_ok-plan_text.ensures ∙ ap (λ (z : ℤ). optimal_text z c.in-Some.best.plan.paths) (to_z-of_z w64 c.in-Some.best.cost fits) in
-    tells_least c.args.input.now c.in_ok-plan_text.field-0 c.in-Ok.model c.in-Some.best.plan.paths c.in-Some.best.cost c.in-Ok.ensures.ok best told
+    let told = c.in_ok-plan_text.ensures ∙ ap (λ (z : ℤ). optimal_text z c.in-Some.best.plan) (to_z-of_z w64 c.in-Some.best.cost fits) in
+    tells_least c.args.input.now c.in_ok-plan_text.field-0 c.in-Ok.model c.in-Some.best.plan c.in-Some.best.cost c.in-Ok.ensures.ok best told
 
 pub returns-in-Err-Text : goal.returns-in-Err-Text
 returns-in-Err-Text c =

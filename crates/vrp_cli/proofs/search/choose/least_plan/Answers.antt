@@ -1,6 +1,5 @@
 use Rattle.std.proofs.Common.{ℕ, ◌<◌, ℤ, List, Option, IfSome, All, length, subst, sym, ◌∙◌, ap, rules, FitsSigned, w64}
 use Rattle.std.proofs.lemmas.Int.{to_z-of_z}
-use Rattle.route_model.specs.declared.plan.Taken.{Taken}
 use Rattle.route_model.specs.Fit.{IsModel}
 use Rattle.route_model.specs.Parts.{ModelParts}
 use Rattle.route_model.specs.Tidy.{AreFew}
@@ -34,7 +33,7 @@ tidy-requires c =
     let model = subst (λ (x : ModelParts). IsModel x) c.model.view_is c.model.invariant in
     let is : IsFound m walks c.in-Some.found = subst (λ (b : Option Found). IfSome b (IsFound m walks)) c.in-Some.is c.in_ok-found.ensures.found in
     let made = c.in_ok-plan.ensures ∙ ap (λ (xs : List ℕ). plan_of walks xs) c.as_slice-2.ensures in
-    subst (λ (ps : List Taken). AreFew ps) (sym made) (are_few m walks c.in-Some.found.chosen model is.selection)
+    subst AreFew (sym made) (are_few m walks c.in-Some.found.chosen model is.selection)
 
 pub returns-clause-least : goal.returns-clause-least
 returns-clause-least c =
@@ -43,9 +42,9 @@ returns-clause-least c =
     let found = c.in-Some.found in
     let made = c.in_ok-plan.ensures ∙ ap (λ (xs : List ℕ). plan_of walks xs) c.as_slice-2.ensures in
     let tidied = c.in_ok-tidy.ensures in
-    let least = tidied_least m walks c.in_ok-found.field-0 found c.in_ok-plan.plan.paths c.in_ok-tidy.field-0.paths c.in_ok-walks.ensures c.in-Some.is c.in_ok-found.ensures made tidied.tidy tidied.quantities tidied.walks in
+    let least = tidied_least m walks c.in_ok-found.field-0 found c.in_ok-plan.plan c.in_ok-tidy.field-0 c.in_ok-walks.ensures c.in-Some.is c.in_ok-found.ensures made tidied.tidy tidied.quantities tidied.walks in
     let fits : FitsSigned w64 found.cost = search rules in
-    subst (λ (z : ℤ). IsLeastPlan m z c.in_ok-tidy.field-0.paths) (sym (to_z-of_z w64 found.cost fits)) least
+    subst (λ (z : ℤ). IsLeastPlan m z c.in_ok-tidy.field-0) (sym (to_z-of_z w64 found.cost fits)) least
 
 pub returns-clause-counted : goal.returns-clause-counted
 returns-clause-counted c =
@@ -55,5 +54,5 @@ returns-clause-counted c =
     let model = subst (λ (x : ModelParts). IsModel x) c.model.view_is c.model.invariant in
     let made = c.in_ok-plan.ensures ∙ ap (λ (xs : List ℕ). plan_of walks xs) c.as_slice-2.ensures in
     let tidied = c.in_ok-tidy.ensures in
-    let least = tidied_least m walks c.in_ok-found.field-0 found c.in_ok-plan.plan.paths c.in_ok-tidy.field-0.paths c.in_ok-walks.ensures c.in-Some.is c.in_ok-found.ensures made tidied.tidy tidied.quantities tidied.walks in
-    solution_counted m c.in_ok-tidy.field-0.paths model.fits least.least.solution
+    let least = tidied_least m walks c.in_ok-found.field-0 found c.in_ok-plan.plan c.in_ok-tidy.field-0 c.in_ok-walks.ensures c.in-Some.is c.in_ok-found.ensures made tidied.tidy tidied.quantities tidied.walks in
+    solution_counted m c.in_ok-tidy.field-0 model.fits least.least.solution

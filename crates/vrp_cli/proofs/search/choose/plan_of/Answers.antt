@@ -15,4 +15,4 @@ loop-i-preserved c =
     let graph = ap (λ (w : ListedWalk). w.graph) walk in
     let arcs : c.in_ok-arcs.arcs ≡ (walk_at walks i).arcs = c.in_ok-arcs.ensures ∙ ap (λ (w : ListedWalk). w.arcs) walk in
     let taken : ◌≡◌ {A = Taken} (record { graph = c.at-walk.result.now.graph; count = 1; arcs = c.in_ok-arcs.arcs }) (taken_once walks i) = cc in
-    c.in_ok-push.ensures.items ∙ (ap (λ (ps : List Taken). ps ++ (record { graph = c.at-walk.result.now.graph; count = 1; arcs = c.in_ok-arcs.arcs }) ∷ []) c.loop-i.invariant ∙ (ap (λ (t : Taken). plan_of walks (take c.loop-i.i-index c.args.chosen.now) ++ t ∷ []) taken ∙ sym (map_more (taken_once walks) c.args.chosen.now c.loop-i.i-index 0 c.loop-i-test.true)))
+    c.in_ok-push.ensures.items ∙ (ap (λ (ps : List Taken). ps ++ (record { graph = c.at-walk.result.now.graph; count = 1; arcs = c.in_ok-arcs.arcs }) ∷ []) c.loop-i.invariant ∙ (ap (λ (t : Taken). (plan_of walks (take c.loop-i.i-index c.args.chosen.now)).paths ++ t ∷ []) taken ∙ sym (map_more (taken_once walks) c.args.chosen.now c.loop-i.i-index 0 c.loop-i-test.true)))

@@ -1,7 +1,8 @@
 use Rattle.std.proofs.Common.{◌≡◌, ℕ, ◌<◌, List, [], length, All, subst, sym, ◌∙◌, ap}
 use Rattle.path_graph.specs.Walk.{GraphParts}
 use Rattle.route_model.specs.Parts.{ModelParts, graph_at, maps_in}
-use Rattle.vrp_cli.proofs.ListedLemmas.{arcs_there, arcs_mapped}
+use Rattle.route_model.proofs.KnownLemmas.{arcs_there}
+use Rattle.vrp_cli.proofs.ListedLemmas.{arcs_mapped}
 use Rattle.vrp_cli.proofs.search.listed.listed.Goals as goal
 
 pub vars_of-requires : goal.vars_of-requires

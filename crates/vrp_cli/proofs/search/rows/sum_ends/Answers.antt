@@ -14,8 +14,8 @@ loop-term-preserved c =
     let i = c.loop-term.term-index in
     let least : FitsSigned w64 c.term_ends-ends.result.0 = search rules in
     let greatest : FitsSigned w64 c.term_ends-ends.result.1 = search rules in (
-      signed_loop_step w64 i (λ (k : ℕ). least_term vars values (term_at terms k)) (i * 1000000000000) 1000000000000 ((i + 1) * 1000000000000) _ c.term_ends-ends.result.0 c.added-least.result c.loop-term.invariant.0 least (record { sfits = c.added-least.type_inv }) e.least e.least_small (omega arith) c.added-least.ensures,
-      signed_loop_step w64 i (λ (k : ℕ). greatest_term vars values (term_at terms k)) (i * 1000000000000) 1000000000000 ((i + 1) * 1000000000000) _ c.term_ends-ends.result.1 c.added-greatest.result c.loop-term.invariant.1 greatest (record { sfits = c.added-greatest.type_inv }) e.greatest e.greatest_small (omega arith) c.added-greatest.ensures,
+      signed_loop_step w64 i (λ (k : ℕ). least_term vars values (term_at terms k)) (i * 1000000000000) 1000000000000 ((i + 1) * 1000000000000) _ c.term_ends-ends.result.0 c.sum_of-least.result c.loop-term.invariant.0 least (record { sfits = c.sum_of-least.type_inv }) e.least e.least_small (omega arith) c.sum_of-least.ensures,
+      signed_loop_step w64 i (λ (k : ℕ). greatest_term vars values (term_at terms k)) (i * 1000000000000) 1000000000000 ((i + 1) * 1000000000000) _ c.term_ends-ends.result.1 c.sum_of-greatest.result c.loop-term.invariant.1 greatest (record { sfits = c.sum_of-greatest.type_inv }) e.greatest e.greatest_small (omega arith) c.sum_of-greatest.ensures,
     )
 
 pub returns-clause-greatest : goal.returns-clause-greatest

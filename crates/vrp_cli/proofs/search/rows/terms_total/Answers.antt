@@ -8,4 +8,4 @@ pub loop-term-preserved : goal.loop-term-preserved
 loop-term-preserved c =
     let e = c.term_total.ensures.value in
     let i = c.loop-term.term-index in
-    signed_loop_step w64 i (λ (k : ℕ). (term_at c.args.terms.now k).coef *ℤ pos (slice_index c.args.values.now (term_at c.args.terms.now k).var)) (i * 1000000000000) 1000000000000 ((i + 1) * 1000000000000) _ c.term_total.result c.added-total.result c.loop-term.invariant (record { sfits = c.term_total.type_inv }) (record { sfits = c.added-total.type_inv }) e c.term_total.ensures.small (omega arith) c.added-total.ensures
+    signed_loop_step w64 i (λ (k : ℕ). (term_at c.args.terms.now k).coef *ℤ pos (slice_index c.args.values.now (term_at c.args.terms.now k).var)) (i * 1000000000000) 1000000000000 ((i + 1) * 1000000000000) _ c.term_total.result c.sum_of-total.result c.loop-term.invariant (record { sfits = c.term_total.type_inv }) (record { sfits = c.sum_of-total.type_inv }) e c.term_total.ensures.small (omega arith) c.sum_of-total.ensures

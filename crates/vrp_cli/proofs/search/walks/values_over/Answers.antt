@@ -4,7 +4,8 @@ use Rattle.path_graph.specs.declared.parts.Values.{Values}
 use Rattle.path_graph.specs.Walk.{root_of, arc_at, over_of, Takes}
 use Rattle.vrp_cli.specs.Partial.{end_of, values_at_end, GoesOn}
 use Rattle.vrp_cli.proofs.Results.{some_iff_same}
-use Rattle.vrp_cli.proofs.PartialLemmas.{leads_below, length-values_along, last_values, tail_holds}
+use Rattle.route_model.proofs.KnownLemmas.{leads_below}
+use Rattle.vrp_cli.proofs.PartialLemmas.{length-values_along, last_values, tail_holds}
 use Rattle.vrp_cli.proofs.search.walks.values_over.Goals as goal
 
 pub end_of-requires : goal.end_of-requires

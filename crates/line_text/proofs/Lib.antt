@@ -1,0 +1,12 @@
+pub mod PlainLineLemmas
+pub mod PrintedWordLemmas
+pub mod NumberWordLemmas
+pub mod ItemLemmas
+pub mod Judgement
+pub mod NumberReads
+pub mod ListReads
+pub mod RuleReads
+pub mod TextLaws
+pub mod TailReads
+pub mod VersionReads
+pub mod Examples

@@ -1,0 +1,5 @@
+pub mod Faults
+pub mod Words
+pub mod Gives
+pub mod Spelling
+pub mod Reading

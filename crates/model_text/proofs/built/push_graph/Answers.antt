@@ -1,4 +1,0 @@
-use Rattle.model_text.proofs.built.push_graph.Goals as goal
-
-pub returns-clause-acyclic : goal.returns-clause-acyclic
-returns-clause-acyclic c = rw c.as_slice-2.ensures at c.in_ok-graph.ensures.acyclic

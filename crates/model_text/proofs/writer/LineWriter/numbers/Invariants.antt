@@ -1,7 +1,0 @@
-use Rattle.std.proofs.Common.{◌≡◌, ◌++◌, ◌∷◌, take}
-use Rattle.std.specs.List.{flat_map}
-use Rattle.model_text.proofs.writer.LineWriter.numbers.Given as goal
-
-abbrev pub invariant-loop-number : goal.invariant-loop-number
-invariant-loop-number g l =
-    l.self ≡ l.initial.self ++ flat_map (λ n. 32 ∷ g.I.Integer.text n) (take l.number-index l.numbers)

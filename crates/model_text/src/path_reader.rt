@@ -1,0 +1,85 @@
+ghost use Rattle.std.specs.Prelude.{◌≡◌, ◌<◌, ◌≤◌, ◌-◌, ◌^◌, OnOk, IfOk, IfErr, length};
+ghost use Rattle.route_model.specs.declared.plan.Plan.{Plan};
+ghost use Rattle.model_text.specs.PathText.{SpellsPlan};
+ghost use Rattle.model_text.specs.PathFault.{path_reading, IsPathRefusal};
+ghost use Rattle.model_text.specs.PathCounts.{AreCounts};
+
+use crate::path_words::take_path;
+use line_text::{Kind, LineFault, LineReader, ReadError, read_text, word};
+use path_graph::List;
+use route_model::Plan;
+use std::alloc::Global;
+use std::collections::BTreeMap;
+
+/// What the lines of a path text tell so far, and whether the end line is read.
+#[derive(Drop)]
+pub struct PlanDraft {
+    pub ended: bool,
+    pub plan: Plan,
+}
+
+/// The same with the counts of the graphs so far.
+#[derive(Drop)]
+struct PlanReader {
+    draft: PlanDraft,
+    counts: BTreeMap<u32, u32>,
+}
+
+impl LineReader for PlanReader {
+    type Told = PlanDraft;
+
+    ghost reading = { path_reading };
+
+    ghost told = { λ r. r.draft };
+
+    ghost sound = { λ r. AreCounts r.counts r.draft.plan };
+
+    fn new(alloc: Global) -> PlanReader {
+        let draft = PlanDraft {
+            ended: false,
+            plan: Plan {
+                paths: List::new(alloc),
+            },
+        };
+        PlanReader {
+            draft,
+            counts: BTreeMap::new(alloc),
+        }
+    }
+
+    fn is_ended(&self) -> bool {
+        self.draft.ended
+    }
+
+    fn take_line<'a>(
+        &mut self,
+        alloc: Global,
+        _number: u32,
+        words: &'a [u8],
+    ) -> Result<&'a [u8], LineFault> {
+        let (first, words) = word(words)?;
+        if first == b"path".as_slice() {
+            return take_path(alloc, &mut self.draft, &mut self.counts, words);
+        }
+        if first == b"end".as_slice() {
+            self.draft.ended = true;
+            return Ok(words);
+        }
+        Err(LineFault::Fault(Kind::Word))
+    }
+}
+
+/// The plan that a path text spells.
+///
+/// Lines, words, numbers and comments are those of model texts. Each line is `path GRAPH COUNT ARC ..`, with one arc or
+/// more, and `end` is the last. An unknown graph or arc is no fault: the judge of plans looks at these. The time is
+/// linear in the text, but for the count of each graph so far, which is looked up in a tree for each path.
+pub fn read_plan(alloc: Global, bytes: &[u8]) -> Result<Plan, ReadError>
+    requires { length bytes.now < 2 ^ 32 - 1 }
+    ensures ok { IfOk result (SpellsPlan bytes.now) }
+    ensures only { IfOk result (λ plan. (other : Plan) → SpellsPlan bytes.now other → other ≡ plan) }
+    ensures refused { IfErr result (IsPathRefusal bytes.now) }
+{
+    let reader: PlanReader = read_text(alloc, bytes)?;
+    Ok(reader.draft.plan)
+}
