@@ -21,3 +21,4 @@ pub mod TreeTests
 pub mod ListTests
 mod Examples
 pub mod TableWallLemmas
+pub mod TableCountLemmas

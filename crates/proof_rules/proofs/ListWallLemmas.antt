@@ -79,7 +79,7 @@ gathered_all P g (tree ∷ rest) each =
     subst (λ (n : ℕ). P (of_arcs n arcs)) next (each (suc k) arcs (omega (arith, l)) h)))
 
 -- lists of which no element is one of the other
-pairs_append : {X : Type 0} (R : X → X → Type 0) (xs ys : List X) → AllPairs R xs → AllPairs R ys → All (λ x. All (R x) ys) xs → AllPairs R (xs ++ ys)
+pub pairs_append : {X : Type 0} (R : X → X → Type 0) (xs ys : List X) → AllPairs R xs → AllPairs R ys → All (λ x. All (R x) ys) xs → AllPairs R (xs ++ ys)
 pairs_append R [] ys p q across = q
 pairs_append R (x ∷ xs) ys p q across =
     AllPairs-cons R x (xs ++ ys)

@@ -19,7 +19,7 @@ use Rattle.label_rules.specs.declared.label.Label.{Label}
 use Rattle.proof_rules.specs.TableWalls.{AreAlike, FilledLaw}
 use Rattle.label_rules.proofs.TestLemmas.{dominates_decides, extension_is, is_extension}
 
-needs_none : (direction : Direction) (S : Setting) (l : Label) → NeedsDominator direction S None l
+pub needs_none : (direction : Direction) (S : Setting) (l : Label) → NeedsDominator direction S None l
 needs_none Forward S l = tt
 needs_none Backward S l = tt
 

@@ -1,5 +1,6 @@
 -- Why a table of labels stops at a limit: it has so many entries, each with a walk of its own, and one more label is wanted.
-use Rattle.std.specs.Prelude.{◌≡◌, ◌≢◌, ℕ, ◌<◌, ℤ, Option, None, Some, List, length, slice_index, All}
+use Rattle.std.specs.Prelude.{◌≡◌, ◌≢◌, ℕ, suc, ◌<◌, ℤ, Option, None, Some, List, length, slice_index, All}
+use Rattle.std.specs.List.{AllPairs}
 use Rattle.path_graph.specs.declared.set_bits.SetBits.{SetBits}
 use Rattle.path_graph.specs.Fit.{int_at}
 use Rattle.rank1_cuts.specs.declared.cut.Cut.{Cut}
@@ -9,11 +10,11 @@ use Rattle.route_model.specs.declared.places.Spot.{Spot}
 use Rattle.route_model.specs.Parts.{ModelParts}
 use Rattle.route_model.specs.Places.{SpotFits}
 use Rattle.multipliers.specs.Quantities.{AreDefined}
-use Rattle.label_space.specs.Rules.{Extends}
+use Rattle.label_space.specs.Rules.{Extends, Rules}
 use Rattle.label_core.specs.declared.table.Place.{Place}
 use Rattle.label_core.specs.declared.table.Entry.{Entry}
 use Rattle.label_core.specs.Tables.{Cells, IsKept, StandsAt, entries_of, entry_count}
-use Rattle.label_core.specs.Walks.{AreDifferentWalks, origin}
+use Rattle.label_core.specs.Walks.{AreDifferentWalks, Reaches, origin}
 use Rattle.label_core.specs.Points.{IsSound}
 use Rattle.label_core.specs.Puts.{CoversNot}
 use Rattle.label_rules.specs.declared.label.Label.{Label}
@@ -78,3 +79,13 @@ pub record IsFilled (limit : ℕ) (direction : Direction) (S : Setting) (thresho
 abbrev pub FilledLaw : Type 0
 FilledLaw = (limit : ℕ) (direction : Direction) (S : Setting) (threshold : Option ℤ) (cells : ℕ) (cell_of : ℕ → ℤ → ℤ → ℕ) (t : Cells Label)
     → IsFilled limit direction S threshold cells cell_of t → IsTableOver limit direction S t
+
+-- different lists of choices from the root of the space, each extension defined: so many different partial walks, or rests
+pub record AreDifferentChoices (r : Rules Label) (lists : List (List ℕ)) : Type 0 where
+  pub each : All (λ choices. (l : Label) × Reaches r r.root choices l) lists
+  pub differ : AllPairs (λ x y. x ≢ y) lists
+
+-- a wall shows more of them than the limit
+abbrev pub TableWallLaw : Type 0
+TableWallLaw = (limit : ℕ) (direction : Direction) (S : Setting) (t : Cells Label) → (wall : IsTableOver limit direction S t)
+    → (lists : List (List ℕ)) × (length lists ≡ suc limit) × AreDifferentChoices (rules direction S None wall.cells wall.cell_of) lists
