@@ -1,11 +1,10 @@
 -- Worked proof trees of two models: trees that close, split and fix grow from the root place and leave nothing open.
-use Rattle.std.proofs.Common.{◌≡◌, ℕ, zero, suc, ◌<◌, ◌*◌, Bool, true, false, ℤ, pos, neg_ℤ, ◌*ℤ◌, ◌^◌, ◌++◌, length, Option, None, Some, List, [], ◌∷◌, map, refl, sym, ◌∙◌, arith}
+use Rattle.std.proofs.Common.{◌≡◌, ℕ, zero, suc, ◌<◌, ◌*◌, true, false, ℤ, pos, ◌*ℤ◌, ◌^◌, ◌++◌, length, Option, None, Some, List, [], ◌∷◌, refl, sym, ◌∙◌, arith}
 use Rattle.std.specs.Prelude.{All, Contains}
 use Rattle.std.proofs.lemmas.Bool.{false≢true}
 use Rattle.std.proofs.lemmas.Int.{ints}
 use Rattle.std.proofs.lemmas.List.{get_or_default}
 use Rattle.std.proofs.lemmas.List.Elements.{All-nil, All-cons}
-use Rattle.path_graph.specs.Fit.{int_at}
 use Rattle.path_graph.specs.SetBits.{has_set, word_of, set_of, all_below, is_subset}
 use Rattle.path_graph.specs.Walk.{GraphParts}
 use Rattle.path_graph.specs.Within.{IsWithin}

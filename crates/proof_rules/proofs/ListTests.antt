@@ -1,11 +1,10 @@
 -- Tests by which worked trees of prefixes are seen to be trees, and complete.
-use Rattle.std.proofs.Common.{◌≡◌, ◌≢◌, ◌==◌, ℕ, zero, suc, ◌<◌, ◌≤◌, nat_lt, not, ◌&&◌, Bool, true, false, ℤ, ◌≤ℤ◌, Option, None, Some, List, [], ◌∷◌, ◌++◌, length, get_or, ◌⊎◌, inl, inr, refl, sym, ◌∙◌, ap, subst, arith, Decides}
+use Rattle.std.proofs.Common.{◌≡◌, ◌==◌, ℕ, zero, suc, ◌<◌, ◌≤◌, nat_lt, not, ◌&&◌, Bool, true, false, ℤ, Option, None, Some, List, length, ◌⊎◌, inl, inr, refl, sym, ◌∙◌, ap, subst, arith, Decides}
 use Rattle.std.specs.Prelude.{Contains}
 use Rattle.std.specs.List.{list_any}
 use lib.Signed.{le_z}
-use Rattle.std.proofs.lemmas.Bool.{false≢true, and_parts, and_from, eqb-true, eq-eqb, cases_Bool, cases_lt}
+use Rattle.std.proofs.lemmas.Bool.{false≢true, and_parts, and_from, eqb-true, eq-eqb, cases_lt}
 use Rattle.std.proofs.lemmas.Bool.Decides.{Decides-eqb, Decides-ltb, Decides-not}
-use Rattle.std.proofs.lemmas.Int.{ints}
 use Rattle.std.proofs.lemmas.List.{get_or_default}
 use Rattle.path_graph.specs.declared.parts.Values.{Values}
 use Rattle.path_graph.specs.Bounds.{IsAtMost}
@@ -18,9 +17,8 @@ use Rattle.label_rules.specs.Spaces.{window_takes}
 use Rattle.label_rules.specs.declared.label.Label.{Label}
 use Rattle.proof_rules.specs.PrefixLaws.{GoesOn}
 use Rattle.proof_rules.specs.PrefixTrees.{IsComplete, IsDemanded, IsStep, IsTree, Step, node_count, node_vertex, prefix_of, step_at}
-use Rattle.label_rules.proofs.ClosedTests.{Some_of, also, also_decides, below_all, below_all_decides, join_test, join_test_decides, some_decides, some_of, unless, unless_decides}
+use Rattle.label_rules.proofs.ClosedTests.{also, also_decides, below_all, below_all_decides, join_test, join_test_decides, some_decides, some_of, unless}
 use Rattle.label_rules.proofs.TestLemmas.{shut_decides, le_decides}
-use Rattle.proof_rules.proofs.GrowthLemmas.{elementary_step, empty_tree, tree_grows}
 use Rattle.proof_rules.proofs.PrefixTreeLemmas.{down_within, one_prefix, prefix_of_law}
 
 -- an arc enters no set that was visited

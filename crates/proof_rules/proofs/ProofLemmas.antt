@@ -1,5 +1,5 @@
 -- What a proof at a place says of the solutions of the place.
-use Rattle.std.proofs.Common.{◌≡◌, ℕ, ◌<◌, ℤ, pos, ◌-ℤ◌, ◌≤ℤ◌, ◌<ℤ◌, List, [], length, Option, None, Some, sym, subst, arith}
+use Rattle.std.proofs.Common.{◌≡◌, ℕ, ◌<◌, ℤ, ◌≤ℤ◌, [], length, Option, None, Some, sym, subst}
 use Rattle.std.proofs.Math.ListN.{get_or-map}
 use Rattle.path_graph.specs.Bounds.{IsAtLeast, IsAtMost}
 use Rattle.route_model.specs.declared.places.Spot.{Spot}

@@ -1,18 +1,17 @@
 -- A wall at a table shows more different lists of choices than its limit.
-use Rattle.std.proofs.Common.{◌≡◌, ◌≢◌, ℕ, zero, suc, ◌+◌, ◌<◌, ◌≤◌, ℤ, Option, None, Some, List, [], ◌∷◌, ◌++◌, length, get_or, map, reverse, All, refl, sym, ◌∙◌, ap, subst, arith, length-append}
-use Rattle.std.specs.Prelude.{Contains, slice_get, slice_index, slice_index_or, sum_by}
+use Rattle.std.proofs.Common.{◌≡◌, ◌≢◌, ℕ, zero, suc, ◌+◌, ◌<◌, ◌≤◌, None, Some, List, [], ◌∷◌, ◌++◌, length, get_or, map, reverse, All, refl, sym, ◌∙◌, ap, subst, arith, length-append}
+use Rattle.std.specs.Prelude.{slice_get, slice_index}
 use Rattle.std.specs.List.{AllPairs, AllZip, range_with_len}
 use Rattle.std.proofs.lemmas.List.{length-map, get_or-map, reverse-append}
-use Rattle.std.proofs.lemmas.List.Elements.{All-nil, All-cons, All-append, All-map, All-contains, Contains-get_or}
+use Rattle.std.proofs.lemmas.List.Elements.{All-nil, All-cons, All-append, All-contains}
 use Rattle.std.proofs.lemmas.List.FromFn.{length-range_with_len, get_or-range_with_len}
 use Rattle.std.proofs.lemmas.List.Kept.{AllPairs-cons}
 use Rattle.std.proofs.lemmas.List.Sums.{sum_by-cons}
 use Rattle.label_space.specs.Rules.{Extends, Rules}
 use Rattle.label_core.specs.declared.table.Place.{Place}
 use Rattle.label_core.specs.declared.table.Entry.{Entry}
-use Rattle.label_core.specs.declared.table.Origin.{Origin}
 use Rattle.label_core.specs.Tables.{Cells, StandsAt, entries_of, place, entry_count}
-use Rattle.label_core.specs.Walks.{AreDifferentWalks, IsWalkOf, LeadsBack, Reaches, origin}
+use Rattle.label_core.specs.Walks.{IsWalkOf, LeadsBack, Reaches, origin}
 use Rattle.label_rules.specs.Labels.{Direction, Setting, extended, root}
 use Rattle.label_rules.specs.Spaces.{onward, rules}
 use Rattle.label_rules.specs.declared.label.Label.{Label}

@@ -1,15 +1,14 @@
 -- A table that was filled up to its limit is a wall, also where a threshold left extensions out.
-use Rattle.std.proofs.Common.{◌≡◌, ◌≢◌, ℕ, ◌<◌, Bool, true, false, ℤ, Option, None, Some, List, [], ◌∷◌, length, refl, sym, ◌∙◌, ap, subst, arith}
+use Rattle.std.proofs.Common.{◌≡◌, ℕ, ℤ, Option, None, Some, List, [], ◌∷◌, sym, ◌∙◌, ap, subst}
 use Rattle.std.specs.Prelude.{slice_index}
 use Rattle.std.proofs.lemmas.Bool.{false≢true}
 use Rattle.path_graph.specs.Fit.{int_at}
-use Rattle.label_space.specs.Rules.{Extends, Fits, Rules}
+use Rattle.label_space.specs.Rules.{Extends, Rules}
 use Rattle.label_core.specs.declared.table.Place.{Place}
 use Rattle.label_core.specs.declared.table.Entry.{Entry}
-use Rattle.label_core.specs.declared.table.Origin.{Origin}
 use Rattle.label_core.specs.Tables.{Cells, IsKept, StandsAt, entries_of}
-use Rattle.label_core.specs.Walks.{AreDifferentWalks, Reaches, origin}
-use Rattle.label_core.specs.Points.{HasLabels, IsSound}
+use Rattle.label_core.specs.Walks.{AreDifferentWalks, Reaches}
+use Rattle.label_core.specs.Points.{IsSound}
 use Rattle.label_core.specs.Puts.{CoversNot}
 use Rattle.label_rules.specs.Dominance.{Dominates}
 use Rattle.label_rules.specs.Labels.{Backward, Direction, Forward, Setting, extended, root}

@@ -1,9 +1,9 @@
 -- Tests by which worked proofs are seen to be proofs, and the joins over an arc to be above a limit.
-use Rattle.std.proofs.Common.{◌≡◌, ℕ, zero, suc, ◌<◌, Bool, true, false, ℤ, ◌<ℤ◌, Option, None, Some, List, [], ◌∷◌, length, refl, sym, subst, arith, Decides}
-use Rattle.std.specs.Prelude.{Contains, All, IsSome, is_some}
+use Rattle.std.proofs.Common.{◌≡◌, ℕ, zero, suc, ◌<◌, Bool, true, ℤ, Option, None, Some, List, [], ◌∷◌, length, refl, sym, subst, arith, Decides}
+use Rattle.std.specs.Prelude.{Contains, All, is_some}
 use Rattle.std.specs.List.{list_all}
 use lib.Signed.{lt_z}
-use Rattle.std.proofs.lemmas.Bool.{false≢true, and_parts}
+use Rattle.std.proofs.lemmas.Bool.{and_parts}
 use Rattle.std.proofs.lemmas.Bool.Decides.{Decides-like}
 use Rattle.std.proofs.lemmas.Int.{ints}
 use Rattle.std.proofs.lemmas.List.Elements.{All-nil}

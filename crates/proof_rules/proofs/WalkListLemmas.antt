@@ -6,7 +6,7 @@ use Rattle.std.proofs.lemmas.Bool.{cases_Bool, eq-eqb, eqb-true, cond-true, cond
 use Rattle.std.proofs.lemmas.List.Elements.{All-filter, All-head, All-tail, filter_passes}
 use Rattle.std.proofs.lemmas.List.Kept.{AllPairs-filter}
 use Rattle.std.proofs.lemmas.List.FromFn.{length-range_with_len, get_or-range_with_len}
-use Rattle.label_rules.specs.Labels.{Setting, root}
+use Rattle.label_rules.specs.Labels.{Setting}
 use Rattle.proof_rules.specs.PrefixLaws.{ArePartialWalks, PartialWalksLaw, WalksDifferLaw, WalksListedLaw}
 use Rattle.proof_rules.specs.PrefixTrees.{IsListed, IsPrefix, IsTree, Step, node_count, node_vertex, prefix_of, sink_nodes, walks_of}
 use Rattle.proof_rules.proofs.PrefixTreeLemmas.{down_within, prefix_of_law, one_prefix, one_node}

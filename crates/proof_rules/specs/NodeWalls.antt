@@ -17,7 +17,7 @@ use Rattle.proof_rules.specs.Counts.{Walk}
 use Rattle.proof_rules.specs.Grows.{Grows, HoldsForSome, Rules}
 use Rattle.proof_rules.specs.Nodes.{AtCounts, AtPlace, CountSplit, Fix, Item, Node, SplitAt, count_terms}
 use Rattle.proof_rules.specs.OpenTrees.{Valued, ValuedFits, IsOpenTree, open_rules, open_values, valued_children, valued_root}
-use Rattle.proof_rules.specs.Proofs.{ClosesAgainst, Proof, bound_at}
+use Rattle.proof_rules.specs.Proofs.{ClosesAgainst, bound_at}
 
 -- multipliers that are all 0, and that they close counts in boxes against z
 abbrev pub no_mult : Mult
