@@ -28,7 +28,7 @@ abbrev pub also : Bool → (Unit {0} → Bool) → Bool
 also true next = next tt
 also false next = false
 
-also_decides : {P Q : Type 0} (b : Bool) (next : Unit {0} → Bool) → Decides b P → Decides (next tt) Q → Decides (also b next) (P × Q)
+pub also_decides : {P Q : Type 0} (b : Bool) (next : Unit {0} → Bool) → Decides b P → Decides (next tt) Q → Decides (also b next) (P × Q)
 also_decides true next p q = (λ h. (p.0 refl, q.0 h), λ h. q.1 h.1)
 also_decides false next p q = (λ h. absurd (false≢true h), λ h. absurd (false≢true (p.1 h.0)))
 
@@ -37,7 +37,7 @@ abbrev pub unless : Bool → (Unit {0} → Bool) → Bool
 unless true next = next tt
 unless false next = true
 
-unless_decides : {P Q : Type 0} (b : Bool) (next : Unit {0} → Bool) → Decides b P → Decides (next tt) Q → Decides (unless b next) (P → Q)
+pub unless_decides : {P Q : Type 0} (b : Bool) (next : Unit {0} → Bool) → Decides b P → Decides (next tt) Q → Decides (unless b next) (P → Q)
 unless_decides true next p q = (λ h x. q.0 h, λ h. q.1 (h (p.0 refl)))
 unless_decides false next p q = (λ h x. absurd (false≢true (p.1 x)), λ h. refl)
 
@@ -46,7 +46,7 @@ abbrev pub below_all : (ℕ → Bool) → ℕ → Bool
 below_all test zero = true
 below_all test (suc n) = also (test n) (λ u. below_all test n)
 
-below_all_decides : (test : ℕ → Bool) (P : ℕ → Type 0) (n : ℕ) → ((k : ℕ) → Decides (test k) (P k)) → Decides (below_all test n) ((k : ℕ) → k < n → P k)
+pub below_all_decides : (test : ℕ → Bool) (P : ℕ → Type 0) (n : ℕ) → ((k : ℕ) → Decides (test k) (P k)) → Decides (below_all test n) ((k : ℕ) → k < n → P k)
 below_all_decides test P zero each = (λ h k l. absurd (omega (arith, l)), λ h. refl)
 below_all_decides test P (suc n) each =
     let both = also_decides (test n) (λ u. below_all test n) (each n) (below_all_decides test P n each) in (
@@ -82,7 +82,7 @@ contains_first x rest = (0, omega arith, refl)
 contains_more : (x : Label) (rest : List Label) (l : Label) → Contains rest l → Contains (x ∷ rest) l
 contains_more x rest l h = (suc h.0, omega (arith, h.1), h.2)
 
-each_decides : (test : Label → Bool) (P : Label → Type 0) (labels : List Label) → ((l : Label) → Decides (test l) (P l)) → Decides (each_of test labels) ((l : Label) → Contains labels l → P l)
+pub each_decides : (test : Label → Bool) (P : Label → Type 0) (labels : List Label) → ((l : Label) → Decides (test l) (P l)) → Decides (each_of test labels) ((l : Label) → Contains labels l → P l)
 each_decides test P [] each = (λ h l c. absurd (contains_none l c), λ h. refl)
 each_decides test P (x ∷ rest) each =
     let both = also_decides (test x) (λ u. each_of test rest) (each x) (each_decides test P rest each) in (
@@ -93,10 +93,10 @@ each_decides test P (x ∷ rest) each =
       λ h. both.1 (h x (contains_first x rest), λ l c. h l (contains_more x rest l c)),
     )
 
-abbrev Some_of : (Label → Type 0) → List Label → Type 0
+abbrev pub Some_of : (Label → Type 0) → List Label → Type 0
 Some_of P labels = (l : Label) × Contains labels l × P l
 
-some_decides : (test : Label → Bool) (P : Label → Type 0) (labels : List Label) → ((l : Label) → Decides (test l) (P l)) → Decides (some_of test labels) (Some_of P labels)
+pub some_decides : (test : Label → Bool) (P : Label → Type 0) (labels : List Label) → ((l : Label) → Decides (test l) (P l)) → Decides (some_of test labels) (Some_of P labels)
 some_decides test P [] each = (λ h. absurd (false≢true h), λ h. absurd (contains_none h.0 h.1))
 some_decides test P (x ∷ rest) each =
     let more = some_decides test P rest each in
@@ -224,7 +224,7 @@ abbrev pub at_least : Option ℤ → ℤ → Bool
 at_least None x = false
 at_least (Some least) x = le_z least x
 
-at_least_decides : (least : Option ℤ) (x : ℤ) → Decides (at_least least x) (IsAtLeast least x)
+pub at_least_decides : (least : Option ℤ) (x : ℤ) → Decides (at_least least x) (IsAtLeast least x)
 at_least_decides None x = (λ h. absurd (false≢true h), λ h. absurd h)
 at_least_decides (Some least) x = le_decides least x
 
@@ -248,7 +248,7 @@ join_test S f a b =
     also (nat_lt a (length S.graph.arcs)) (λ u. also ((arc_at S.graph.arcs a).tail == f.vertex) (λ u. also ((arc_at S.graph.arcs a).head == b.vertex)
     (λ u. also (not (S.is_shut a)) (λ u. also (below_all (λ k. le_z (int_at f.values.at k +ℤ int_at (arc_at S.graph.arcs a).needs k) (int_at b.values.at k)) 6) (λ u. are_disjoint f.memory b.memory)))))
 
-join_test_decides : (S : Setting) (f : Label) (a : ℕ) (b : Label) → Decides (join_test S f a b) (Joins S f a b)
+pub join_test_decides : (S : Setting) (f : Label) (a : ℕ) (b : Label) → Decides (join_test S f a b) (Joins S f a b)
 join_test_decides S f a b =
     let arc = arc_at S.graph.arcs a in
     let room = λ (u : Unit {0}). are_disjoint f.memory b.memory in

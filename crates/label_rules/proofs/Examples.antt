@@ -16,17 +16,17 @@ use Rattle.label_rules.specs.Leasts.{Both, Full, Half, IsLeast, IsTable}
 use Rattle.label_rules.proofs.ClosedTests.{is_table, is_table_decides, is_least, is_least_decides, dominates_test, dominates_test_decides}
 
 -- a window from 0 to a high end, and five that are not used
-abbrev windows : ℕ → List Window
+abbrev pub windows : ℕ → List Window
 windows high = record { low = pos 0; high = pos high } ∷ replicate 5 (record { low = pos 0; high = pos 0 })
 
-abbrev vertex : ℕ → Option ℕ → Vertex
+abbrev pub vertex : ℕ → Option ℕ → Vertex
 vertex high set = record { set = set; windows = windows high }
 
-abbrev arc : ℕ → ℕ → ℕ → GraphArc
+abbrev pub arc : ℕ → ℕ → ℕ → GraphArc
 arc tail head need = record { tail = tail; head = head; needs = pos need ∷ replicate 5 (pos 0) }
 
 -- from 0 to 3, over 1 in set 0 and 2 in set 1, with room for so many, and so many paths
-abbrev small : ℕ → ℕ → ℕ → GraphParts
+abbrev pub small : ℕ → ℕ → ℕ → GraphParts
 small high least most = record {
   ends = record { source = 0; sink = 3; low = least; high = most; mains = 1; seconds = 0 };
   vertices = vertex high None ∷ vertex high (Some 0) ∷ vertex high (Some 1) ∷ vertex high None ∷ [];
@@ -50,11 +50,11 @@ plain g costs = record {
 }
 
 -- the sets whose numbers are the bits of a word
-abbrev sets : ℕ → SetBits
+abbrev pub sets : ℕ → SetBits
 sets word = record { bits = word ∷ replicate 7 0 }
 
 -- a label: vertex, cost in units, value of the one resource, memory as a word, states
-abbrev label_with : ℕ → ℤ → ℕ → ℕ → List ℕ → Label
+abbrev pub label_with : ℕ → ℤ → ℕ → ℕ → List ℕ → Label
 label_with v cost value memory states = record {
   vertex = v;
   values = record { at = pos value ∷ replicate 5 (pos 0) };
@@ -63,17 +63,17 @@ label_with v cost value memory states = record {
   cost = pos 65536 *ℤ cost;
 }
 
-abbrev label : ℕ → ℤ → ℕ → ℕ → Label
+abbrev pub label : ℕ → ℤ → ℕ → ℕ → Label
 label v cost value memory = label_with v cost value memory (replicate 64 0)
 
-abbrev minus : ℕ → ℤ
+abbrev pub minus : ℕ → ℤ
 minus n = neg_ℤ (pos n)
 
 -- room 2; the rows of the two sets have multipliers 4 and 5
 abbrev priced : Setting
 priced = plain (small 2 0 2) (minus 1 ∷ minus 1 ∷ minus 3 ∷ pos 1 ∷ pos 3 ∷ pos 4 ∷ [])
 
-abbrev priced_fore : List Label
+abbrev pub priced_fore : List Label
 priced_fore = label 0 (pos 0) 0 0 ∷ label 1 (minus 1) 1 1 ∷ label 2 (minus 1) 1 2 ∷ label 2 (minus 4) 2 2 ∷ label 3 (pos 2) 1 0 ∷ label 3 (pos 0) 2 0 ∷ []
 
 priced_closed_test : is_table priced Full priced_fore [] ≡ true
@@ -131,7 +131,7 @@ rootless_not_closed h = false≢true (sym rootless_not_closed_test ∙ (is_table
 abbrev tight : Setting
 tight = plain (small 1 1 1) (minus 34 ∷ minus 33 ∷ minus 35 ∷ minus 32 ∷ pos 3 ∷ pos 4 ∷ [])
 
-abbrev tight_fore : List Label
+abbrev pub tight_fore : List Label
 tight_fore = label 0 (pos 0) 0 0 ∷ label 1 (minus 34) 1 1 ∷ label 2 (minus 33) 1 2 ∷ label 3 (minus 31) 1 0 ∷ []
 
 tight_closed_test : is_table tight Full tight_fore [] ≡ true
@@ -152,10 +152,10 @@ tight_least = (is_least_decides tight Full tight_fore [] (Some (minus 2031616)))
 abbrev unpriced : Setting
 unpriced = plain (small 1 1 1) (pos 3 ∷ pos 4 ∷ pos 2 ∷ pos 5 ∷ pos 3 ∷ pos 4 ∷ [])
 
-abbrev unpriced_fore : List Label
+abbrev pub unpriced_fore : List Label
 unpriced_fore = label 0 (pos 0) 0 0 ∷ label 1 (pos 3) 1 1 ∷ label 2 (pos 4) 1 2 ∷ label 3 (pos 6) 1 0 ∷ []
 
-abbrev unpriced_back : List Label
+abbrev pub unpriced_back : List Label
 unpriced_back = label 3 (pos 0) 1 0 ∷ label 1 (pos 3) 1 1 ∷ label 2 (pos 4) 1 2 ∷ label 0 (pos 6) 0 0 ∷ []
 
 unpriced_closed_test : is_table unpriced Both unpriced_fore unpriced_back ≡ true
@@ -173,10 +173,10 @@ pub unpriced_least : IsLeast unpriced Both unpriced_fore unpriced_back (Some (po
 unpriced_least = (is_least_decides unpriced Both unpriced_fore unpriced_back (Some (pos 393216))).0 unpriced_least_test
 
 -- a half pair with threshold 1 for the first setting
-abbrev half_fore : List Label
+abbrev pub half_fore : List Label
 half_fore = label 0 (pos 0) 0 0 ∷ label 1 (minus 1) 1 1 ∷ label 2 (minus 1) 1 2 ∷ []
 
-abbrev half_back : List Label
+abbrev pub half_back : List Label
 half_back = label 3 (pos 0) 2 0 ∷ label 1 (pos 3) 2 1 ∷ label 2 (pos 4) 2 2 ∷ []
 
 half_closed_test : is_table priced (Half (pos 1)) half_fore half_back ≡ true
@@ -222,10 +222,10 @@ half_not_closed h = false≢true (sym half_not_closed_test ∙ (is_table_decides
 abbrev fixing : Setting
 fixing = plain (small 2 0 2) (minus 2 ∷ minus 1 ∷ minus 3 ∷ pos 0 ∷ pos 3 ∷ pos 4 ∷ [])
 
-abbrev fixing_fore : List Label
+abbrev pub fixing_fore : List Label
 fixing_fore = label 0 (pos 0) 0 0 ∷ label 1 (minus 2) 1 1 ∷ label 2 (minus 1) 1 2 ∷ label 2 (minus 5) 2 2 ∷ label 3 (pos 1) 1 0 ∷ label 3 (minus 1) 2 0 ∷ []
 
-abbrev fixing_back : List Label
+abbrev pub fixing_back : List Label
 fixing_back = label 3 (pos 0) 2 0 ∷ label 1 (pos 3) 2 1 ∷ label 2 (pos 4) 2 2 ∷ label 1 (pos 1) 1 1 ∷ label 2 (pos 3) 1 2 ∷ label 2 (pos 1) 0 2 ∷ label 1 (pos 0) 0 1 ∷ label 0 (pos 1) 1 0 ∷ label 0 (minus 1) 0 0 ∷ []
 
 fixing_closed_test : is_table fixing Both fixing_fore fixing_back ≡ true

@@ -13,4 +13,4 @@ pub mod TestLemmas
 pub mod LevelLemmas
 pub mod SpaceLemmas
 pub mod ClosedTests
-mod Examples
+pub mod Examples

@@ -1,13 +1,12 @@
 -- Counts over a list of walks, and their plan.
-use Rattle.std.proofs.Common.{◌≡◌, ◌==◌, ℕ, zero, suc, ◌+◌, ◌<◌, ◌≤◌, nat_lt, Bool, ℤ, pos, negsuc, ◌≤ℤ◌, ◌+ℤ◌, ◌*ℤ◌, List, [], ◌∷◌, length, get_or, mul-le-mul_left, inl, inr, refl, ◌∙◌, ap, arith}
+use Rattle.std.proofs.Common.{◌≡◌, ℕ, zero, suc, ◌+◌, ◌<◌, ◌≤◌, nat_lt, Bool, ℤ, pos, negsuc, ◌≤ℤ◌, ◌+ℤ◌, ◌*ℤ◌, List, [], ◌∷◌, length, get_or, mul-le-mul_left, inl, inr, refl, ◌∙◌, ap, arith}
 use Rattle.std.specs.Prelude.{Contains, filter}
 use Rattle.std.proofs.Math.IntN.{zero-*ℤ}
-use Rattle.std.proofs.lemmas.Bool.{cases_Bool, eq-eqb, cond-true, cond-false, ltb-true, ltb-false}
+use Rattle.std.proofs.lemmas.Bool.{cases_Bool, cond-true, cond-false, ltb-true, ltb-false}
 use Rattle.std.proofs.lemmas.Int.{ints}
 use Rattle.std.proofs.lemmas.List.Elements.{All-nil, All-cons, All-filter, All-head, All-tail, All-weaker, filter_passes}
 use Rattle.path_graph.specs.Sums.{sum_over}
 use Rattle.path_graph.proofs.IntLemmas.{add-mul_z}
-use Rattle.route_model.specs.declared.plan.Plan.{Plan}
 use Rattle.route_model.specs.declared.plan.Taken.{Taken}
 use Rattle.proof_rules.specs.Counts.{AreAmong, AreCounts, CountMostLaw, CountsLaw, PlanOfLaw, Walk, walk_at, walk_of, with_counts}
 use Rattle.proof_rules.proofs.WalkListLemmas.{contains_more}

@@ -17,3 +17,8 @@ pub mod ValidLemmas
 pub mod FallLemmas
 pub mod OpenTreeLemmas
 pub mod ListWallLemmas
+pub mod TreeTests
+pub mod ListTests
+mod Examples
+pub mod TableWallLemmas
+pub mod TableCountLemmas

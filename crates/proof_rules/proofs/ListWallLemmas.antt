@@ -1,16 +1,16 @@
 -- A wall at a list shows more different partial walks than the limit.
-use Rattle.std.proofs.Common.{◌≡◌, ◌≢◌, ℕ, zero, suc, ◌+◌, ◌<◌, ◌≤◌, ℤ, List, [], ◌∷◌, ◌++◌, length, get_or, map, All, refl, sym, ◌∙◌, ap, subst, arith, length-append}
+use Rattle.std.proofs.Common.{◌≡◌, ◌≢◌, ℕ, suc, ◌+◌, ◌<◌, ◌≤◌, ℤ, List, [], ◌∷◌, ◌++◌, length, get_or, map, All, refl, sym, ◌∙◌, ap, subst, arith, length-append}
 use Rattle.std.specs.Prelude.{Contains, sum_by}
 use Rattle.std.specs.List.{AllPairs, range_with_len}
 use Rattle.std.proofs.lemmas.List.{length-map, get_or-map}
-use Rattle.std.proofs.lemmas.List.Elements.{All-nil, All-cons, All-append, All-head, All-tail, All-map, All-weaker, Contains-get_or}
+use Rattle.std.proofs.lemmas.List.Elements.{All-nil, All-cons, All-append, All-head, All-tail, All-map, Contains-get_or}
 use Rattle.std.proofs.lemmas.List.FromFn.{length-range_with_len, get_or-range_with_len}
 use Rattle.std.proofs.lemmas.List.Kept.{AllPairs-cons}
 use Rattle.std.proofs.lemmas.List.Sums.{sum_by-cons}
 use Rattle.route_model.specs.declared.places.Spot.{Spot}
-use Rattle.route_model.specs.Parts.{ModelParts, graph_in}
+use Rattle.route_model.specs.Parts.{ModelParts}
 use Rattle.label_rules.specs.Admitted.{IsElementary}
-use Rattle.label_rules.specs.Labels.{Setting, root}
+use Rattle.label_rules.specs.Labels.{Setting}
 use Rattle.proof_rules.specs.Counts.{Walk}
 use Rattle.proof_rules.specs.ListWalls.{AreDifferentPartials, IsListWall, IsPartialOf, ListWallLaw}
 use Rattle.proof_rules.specs.Nodes.{tree_at, walks_in}
@@ -79,7 +79,7 @@ gathered_all P g (tree ∷ rest) each =
     subst (λ (n : ℕ). P (of_arcs n arcs)) next (each (suc k) arcs (omega (arith, l)) h)))
 
 -- lists of which no element is one of the other
-pairs_append : {X : Type 0} (R : X → X → Type 0) (xs ys : List X) → AllPairs R xs → AllPairs R ys → All (λ x. All (R x) ys) xs → AllPairs R (xs ++ ys)
+pub pairs_append : {X : Type 0} (R : X → X → Type 0) (xs ys : List X) → AllPairs R xs → AllPairs R ys → All (λ x. All (R x) ys) xs → AllPairs R (xs ++ ys)
 pairs_append R [] ys p q across = q
 pairs_append R (x ∷ xs) ys p q across =
     AllPairs-cons R x (xs ++ ys)

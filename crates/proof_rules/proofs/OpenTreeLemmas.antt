@@ -1,12 +1,10 @@
 -- The values of open places bound each solution that costs less than z.
-use Rattle.std.proofs.Common.{◌≡◌, ◌≢◌, ℕ, zero, suc, ◌+◌, ◌*◌, ◌/◌, ◌%◌, ◌<◌, ◌≤◌, ℤ, pos, negsuc, neg_ℤ, ◌-ℤ◌, ◌*ℤ◌, ◌≤ℤ◌, ◌<ℤ◌, Option, None, Some, List, [], ◌∷◌, ◌++◌, map, All, inl, inr, refl, sym, ◌∙◌, ap, subst, arith}
-use Rattle.std.specs.Int.{int_max}
+use Rattle.std.proofs.Common.{◌≡◌, ◌≢◌, suc, ◌+◌, ◌*◌, ◌/◌, ◌≤◌, ℤ, pos, negsuc, neg_ℤ, ◌≤ℤ◌, ◌<ℤ◌, Option, None, Some, List, [], ◌∷◌, ◌++◌, map, All, inl, inr, refl, subst, arith}
 use Rattle.std.proofs.lemmas.Int.{ints, clamps, by_lt_z}
 use Rattle.std.proofs.lemmas.List.Elements.{All-head, All-tail}
 use Rattle.path_graph.specs.Bounds.{IsAtLeast}
 use Rattle.route_model.specs.declared.places.Spot.{Spot}
 use Rattle.route_model.specs.declared.plan.Plan.{Plan}
-use Rattle.route_model.specs.Costs.{cost_above_all}
 use Rattle.route_model.specs.Fit.{ModelFits}
 use Rattle.route_model.specs.Parts.{ModelParts}
 use Rattle.route_model.specs.Quantities.{cost_of}

@@ -1,12 +1,12 @@
 -- Labels of a place against the solutions of the place.
-use Rattle.std.proofs.Common.{◌≡◌, ℕ, ◌<◌, ◌≤◌, ℤ, pos, neg_ℤ, ◌+ℤ◌, ◌-ℤ◌, Bool, false, List, [], ◌∷◌, length, Option, None, Some, All, inl, inr, refl, sym, ◌∙◌, arith}
+use Rattle.std.proofs.Common.{◌≡◌, ℕ, ◌<◌, ◌≤◌, ℤ, neg_ℤ, ◌+ℤ◌, ◌-ℤ◌, false, List, [], ◌∷◌, length, Option, None, Some, All, inl, inr, refl, sym, ◌∙◌, arith}
 use Rattle.std.proofs.lemmas.Bool.{cases_lt}
 use Rattle.std.proofs.lemmas.Int.{ints}
 use Rattle.std.proofs.lemmas.List.Elements.{All-head, All-tail}
 use Rattle.path_graph.specs.declared.set_bits.SetBits.{SetBits}
 use Rattle.path_graph.specs.Sums.{sum_over}
 use Rattle.path_graph.specs.Visits.{visit_count, visit_over, visits_along}
-use Rattle.path_graph.specs.Walk.{GraphParts, Leads}
+use Rattle.path_graph.specs.Walk.{GraphParts}
 use Rattle.rank1_cuts.specs.declared.cut.Cut.{Cut}
 use Rattle.rank1_cuts.specs.Fit.{CutFits}
 use Rattle.route_model.specs.declared.multipliers.Mult.{Mult}

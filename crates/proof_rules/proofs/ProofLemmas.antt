@@ -1,5 +1,5 @@
 -- What a proof at a place says of the solutions of the place.
-use Rattle.std.proofs.Common.{◌≡◌, ℕ, ◌<◌, ℤ, pos, ◌-ℤ◌, ◌≤ℤ◌, ◌<ℤ◌, List, [], length, Option, None, Some, sym, subst, arith}
+use Rattle.std.proofs.Common.{◌≡◌, ℕ, ◌<◌, ℤ, ◌≤ℤ◌, [], length, Option, None, Some, sym, subst}
 use Rattle.std.proofs.Math.ListN.{get_or-map}
 use Rattle.path_graph.specs.Bounds.{IsAtLeast, IsAtMost}
 use Rattle.route_model.specs.declared.places.Spot.{Spot}
@@ -9,7 +9,7 @@ use Rattle.route_model.specs.Parts.{ModelParts, taken_at}
 use Rattle.route_model.specs.Places.{SolvesAt}
 use Rattle.route_model.specs.Quantities.{cost_of}
 use Rattle.multipliers.specs.Quantities.{reduced_cost, scaled}
-use Rattle.safe_bound.specs.Bounds.{IsFrom, IsUpTo, least_at}
+use Rattle.safe_bound.specs.Bounds.{least_at}
 use Rattle.safe_bound.proofs.BoundLemmas.{bound_holds, limit_holds, scaled_apart}
 use Rattle.label_rules.specs.Labels.{Setting}
 use Rattle.label_rules.specs.Leasts.{Both, Form, IsTable}
@@ -17,19 +17,6 @@ use Rattle.label_rules.specs.Tables.{AreCovers}
 use Rattle.proof_rules.specs.Proofs.{AreBoth, BoundLaw, ClosesAgainst, IsProof, LeastsLaw, LimitLaw, Proof, Table, bound_at, leasts_of, setting_of, table_at, walk_limit}
 use Rattle.label_rules.proofs.LeastLemmas.{least_law, table_covers}
 use Rattle.proof_rules.proofs.PlaceLemmas.{reduced_is, setting_fits, walk_admitted}
-
--- bounds that may be missing, in the words of two crates
-from_at_least : (least : Option ℤ) (x y : ℤ) → x ≡ y → IsAtLeast least x → IsFrom least y
-from_at_least None x y e h = h
-from_at_least (Some l) x y e h = subst (λ (c : ℤ). l ≤ℤ c) e h
-
-at_least_from : (least : Option ℤ) (x : ℤ) → IsFrom least x → IsAtLeast least x
-at_least_from None x h = h
-at_least_from (Some l) x h = h
-
-at_most_up_to : (limit : Option ℤ) (x y : ℤ) → x ≡ y → IsUpTo limit x → IsAtMost limit y
-at_most_up_to None x y e h = h
-at_most_up_to (Some l) x y e h = subst (λ (c : ℤ). c ≤ℤ l) e h
 
 least_at-is : (p : Proof) (g : ℕ) → least_at (leasts_of p) g ≡ (table_at p.tables g).least
 least_at-is p g = get_or-map (λ (t : Table). t.least) p.tables g (table_at [] g)
@@ -45,20 +32,18 @@ leasts_law m spot p plan fits proof solves i below =
     let least = least_law S t.form t.fore t.back t.least (taken_at plan.paths i).arcs (setting_fits m spot p.near p.cuts p.mult g fits path.graph proof.cuts_fit)
     (table_covers S t.form t.fore t.back table.closed) table.least_is is in
     let cost = reduced_is m spot p.near p.cuts p.mult g _ _ (taken_at plan.paths i).arcs fits path.graph path.walk.walk in
-    subst (λ (l : Option ℤ). IsFrom l (reduced_cost m p.cuts p.mult g (taken_at plan.paths i).arcs)) (sym (least_at-is p g))
-    (from_at_least t.least _ _ cost least)
+    subst (λ (l : Option ℤ). IsAtLeast l (reduced_cost m p.cuts p.mult g (taken_at plan.paths i).arcs)) (sym (least_at-is p g)) (subst (IsAtLeast t.least) cost least)
 
 pub bound_law : BoundLaw
 bound_law m spot p plan fits proof solves =
-    at_least_from (bound_at m spot p) (scaled (cost_of m plan))
-    (bound_holds m p.cuts spot.boxes p.mult (leasts_of p) plan fits proof.cuts_fit solves.within proof.defined (leasts_law m spot p plan fits proof solves))
+    bound_holds m p.cuts spot.boxes p.mult (leasts_of p) plan fits proof.cuts_fit solves.within proof.defined (leasts_law m spot p plan fits proof solves)
 
 pub limit_law : LimitLaw
 limit_law m spot p z plan i fits proof solves cheap below =
     let g : ℕ = (taken_at plan.paths i).graph in
     let path = solves.within.solution.paths i below in
     let limit = limit_holds m p.cuts spot.boxes p.mult (leasts_of p) plan z fits proof.cuts_fit solves.within proof.defined (leasts_law m spot p plan fits proof solves) cheap i below in
-    at_most_up_to (walk_limit m spot p z g) _ _ (sym (reduced_is m spot p.near p.cuts p.mult g _ _ (taken_at plan.paths i).arcs fits path.graph path.walk.walk)) limit
+    subst (IsAtMost (walk_limit m spot p z g)) (sym (reduced_is m spot p.near p.cuts p.mult g _ _ (taken_at plan.paths i).arcs fits path.graph path.walk.walk)) limit
 
 -- what closes leaves no solution below z
 closed_bound : (bound : Option ℤ) (z cost : ℤ) → ClosesAgainst z bound → IsAtLeast bound (scaled cost) → z ≤ℤ cost

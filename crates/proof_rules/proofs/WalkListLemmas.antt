@@ -6,7 +6,7 @@ use Rattle.std.proofs.lemmas.Bool.{cases_Bool, eq-eqb, eqb-true, cond-true, cond
 use Rattle.std.proofs.lemmas.List.Elements.{All-filter, All-head, All-tail, filter_passes}
 use Rattle.std.proofs.lemmas.List.Kept.{AllPairs-filter}
 use Rattle.std.proofs.lemmas.List.FromFn.{length-range_with_len, get_or-range_with_len}
-use Rattle.label_rules.specs.Labels.{Setting, root}
+use Rattle.label_rules.specs.Labels.{Setting}
 use Rattle.proof_rules.specs.PrefixLaws.{ArePartialWalks, PartialWalksLaw, WalksDifferLaw, WalksListedLaw}
 use Rattle.proof_rules.specs.PrefixTrees.{IsListed, IsPrefix, IsTree, Step, node_count, node_vertex, prefix_of, sink_nodes, walks_of}
 use Rattle.proof_rules.proofs.PrefixTreeLemmas.{down_within, prefix_of_law, one_prefix, one_node}
@@ -29,14 +29,14 @@ kept_at {X} test (y ∷ ys) x (suc k) passes l e =
     ]
 
 -- lists whose elements are related each to each
-zip_made : {A B : Type 0} (R : A → B → Type 0) (xs : List A) → ((x : A) → Contains xs x → (y : B) × R x y) → (ys : List B) × AllZip R xs ys
+pub zip_made : {A B : Type 0} (R : A → B → Type 0) (xs : List A) → ((x : A) → Contains xs x → (y : B) × R x y) → (ys : List B) × AllZip R xs ys
 zip_made R [] each = ([], tt)
 zip_made R (x ∷ xs) each =
     let here = each x (0, omega arith, refl) in
     let more = zip_made R xs (λ y h. each y (contains_more x xs y h)) in
     (here.0 ∷ more.0, (here.1, more.1))
 
-zip_at : {A B : Type 0} (R : A → B → Type 0) (xs : List A) (ys : List B) (i : ℕ) (d : A) (e : B) → AllZip R xs ys → i < length ys → (i < length xs) × R (get_or xs i d) (get_or ys i e)
+pub zip_at : {A B : Type 0} (R : A → B → Type 0) (xs : List A) (ys : List B) (i : ℕ) (d : A) (e : B) → AllZip R xs ys → i < length ys → (i < length xs) × R (get_or xs i d) (get_or ys i e)
 zip_at R [] [] i d e h l = absurd (omega (arith, l))
 zip_at R [] (y ∷ ys) i d e h l = absurd h
 zip_at R (x ∷ xs) [] i d e h l = absurd h
@@ -45,7 +45,7 @@ zip_at R (x ∷ xs) (y ∷ ys) (suc i) d e h l =
     let more = zip_at R xs ys i d e h.1 (omega (arith, l)) in
     (omega (arith, more.0), more.1)
 
-zip_size : {A B : Type 0} (R : A → B → Type 0) (xs : List A) (ys : List B) → AllZip R xs ys → length ys ≡ length xs
+pub zip_size : {A B : Type 0} (R : A → B → Type 0) (xs : List A) (ys : List B) → AllZip R xs ys → length ys ≡ length xs
 zip_size R [] [] h = refl
 zip_size R [] (y ∷ ys) h = absurd h
 zip_size R (x ∷ xs) [] h = absurd h

@@ -14,3 +14,4 @@ pub mod ValidLaws
 pub mod OpenTrees
 pub mod NodeWalls
 pub mod ListWalls
+pub mod TableWalls

@@ -1,5 +1,5 @@
 -- Why a search stops at a limit of nodes: so many were made, and some place is still open.
-use Rattle.std.specs.Prelude.{◌≡◌, ◌≢◌, ℕ, ◌≤◌, ℤ, pos, ◌+ℤ◌, ◌-ℤ◌, ◌≤ℤ◌, Bool, true, false, Option, None, Some, List, [], ◌∷◌, count_by, All, Contains}
+use Rattle.std.specs.Prelude.{◌≡◌, ◌≢◌, ◌⊎◌, ℕ, ◌≤◌, ℤ, pos, ◌+ℤ◌, ◌-ℤ◌, ◌≤ℤ◌, Bool, true, false, Option, None, Some, List, [], ◌∷◌, count_by, All, Contains}
 use lib.Signed.{◌<ℤ◌}
 use Rattle.route_model.specs.declared.multipliers.Mult.{Mult}
 use Rattle.route_model.specs.declared.places.Span.{Span}
@@ -17,7 +17,7 @@ use Rattle.proof_rules.specs.Counts.{Walk}
 use Rattle.proof_rules.specs.Grows.{Grows, HoldsForSome, Rules}
 use Rattle.proof_rules.specs.Nodes.{AtCounts, AtPlace, CountSplit, Fix, Item, Node, SplitAt, count_terms}
 use Rattle.proof_rules.specs.OpenTrees.{Valued, ValuedFits, IsOpenTree, open_rules, open_values, valued_children, valued_root}
-use Rattle.proof_rules.specs.Proofs.{ClosesAgainst, Proof, bound_at}
+use Rattle.proof_rules.specs.Proofs.{ClosesAgainst, bound_at}
 
 -- multipliers that are all 0, and that they close counts in boxes against z
 abbrev pub no_mult : Mult
@@ -71,10 +71,12 @@ pub record IsNodeWall (m : ModelParts) (limit : ℕ) (best : Option Plan) (z : �
   pub made : count_by is_made places ≡ limit
   pub some_open : 1 ≤ count_by is_open places
 
--- the bound is the least value of the open places, or the cost of the best where that is less
+-- the bound is the least value of the open places, or the cost of the best where that is less: at most each of these, and
+-- one of them
 pub record IsOpenBound (m : ModelParts) (best : Option Plan) (z : ℤ) (places : List (Option Node)) (bound : ℤ) : Type 0 where
   pub values : All (λ v. bound ≤ℤ v) (open_values m z places)
   pub cost : best ≢ None → bound ≤ℤ z
+  pub reached : HoldsForSome (λ v. bound ≡ v) (open_values m z places) ⊎ ((best ≢ None) × (bound ≡ z))
 
 -- a solution that costs less than z costs at least the value of some open place
 abbrev pub OpenValueLaw : Type 0

@@ -1,9 +1,7 @@
 -- Trees of which some places are open, and the values of their open places.
-use Rattle.std.specs.Prelude.{◌≡◌, ℕ, suc, ◌+◌, ◌-◌, ◌/◌, ℤ, pos, negsuc, neg_ℤ, ◌-ℤ◌, ◌≤ℤ◌, Option, None, Some, List, [], ◌∷◌, ◌++◌, map, unsigned_abs}
-use lib.Signed.{◌<ℤ◌}
+use Rattle.std.specs.Prelude.{suc, ◌+◌, ◌-◌, ◌/◌, ℤ, pos, negsuc, neg_ℤ, ◌≤ℤ◌, Option, None, Some, List, [], ◌∷◌, ◌++◌, map, unsigned_abs}
 use Rattle.std.specs.Int.{int_max}
 use Rattle.route_model.specs.declared.limits.TheConstants.{SCALE}
-use Rattle.route_model.specs.declared.plan.Plan.{Plan}
 use Rattle.route_model.specs.Costs.{least_box_cost}
 use Rattle.route_model.specs.Parts.{ModelParts}
 use Rattle.route_model.specs.Places.{root_place}

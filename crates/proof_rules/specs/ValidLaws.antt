@@ -1,5 +1,5 @@
 -- What the nodes of a tree show of the plans at their items, up to the law that a valid certificate proves its claim.
-use Rattle.std.specs.Prelude.{◌≡◌, ◌↔◌, ℕ, ◌<◌, ℤ, pos, ◌≤ℤ◌, List, [], ◌∷◌, length, slice_index}
+use Rattle.std.specs.Prelude.{◌≡◌, ◌↔◌, ℕ, ◌<◌, ℤ, pos, ◌≤ℤ◌, List, [], length, slice_index}
 use lib.Signed.{◌<ℤ◌}
 use Rattle.route_model.specs.declared.places.Span.{Span}
 use Rattle.route_model.specs.declared.places.Spot.{Spot}

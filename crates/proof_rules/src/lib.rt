@@ -12,8 +12,8 @@ mod valid;
 
 pub use counts::{counts_have_plans, plans_have_counts};
 pub use open::{
-    list_walls_show_walks, open_values_bound_solutions, rounding_keeps_bounds,
-    walls_bound_solutions,
+    filled_tables_are_walls, list_walls_show_walks, open_values_bound_solutions,
+    rounding_keeps_bounds, table_walls_show_walks, walls_bound_solutions,
 };
 pub use places::{labels_cost_as_reduced, proofs_bound_places, walks_are_admitted};
 pub use prefixes::{

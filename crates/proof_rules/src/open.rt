@@ -1,6 +1,7 @@
 ghost use Rattle.proof_rules.specs.ListWalls.{ListWallLaw};
 ghost use Rattle.proof_rules.specs.NodeWalls.{OpenValueLaw, WallBoundLaw, WallTreeLaw};
 ghost use Rattle.proof_rules.specs.OpenTrees.{RoundedUpLaw};
+ghost use Rattle.proof_rules.specs.TableWalls.{FilledLaw, TableWallLaw};
 
 /// A bound divided by 65,536 and rounded up is at most each cost that it bounds.
 pub fn rounding_keeps_bounds()
@@ -22,4 +23,16 @@ pub fn walls_bound_solutions()
 /// Where a list of walks stops at a limit of labels, there are more different feasible partial walks than the limit.
 pub fn list_walls_show_walks()
     ensures { ListWallLaw }
+{}
+
+/// A table that was filled up to its limit is a wall: so many entries, each with a walk of its own, and one more label is
+/// wanted; also where a threshold left extensions out.
+pub fn filled_tables_are_walls()
+    ensures { FilledLaw }
+{}
+
+/// Where a table stops at a limit of labels, there are more different partial walks, or rests, than the limit: lists of
+/// choices from the root, each extension defined.
+pub fn table_walls_show_walks()
+    ensures { TableWallLaw }
 {}

@@ -6,6 +6,7 @@ use Rattle.std.proofs.lemmas.Bool.{cases_lt}
 use Rattle.std.proofs.lemmas.Bool.Decides.{nat_tests}
 use Rattle.std.proofs.lemmas.List.Sums.{sum_by-cons}
 use lib.IntN.{zero-*ℤ}
+use Rattle.path_graph.specs.Bounds.{IsAtLeast, IsAtMost}
 use Rattle.path_graph.specs.First.{EachBelow, IsFirstFault}
 use Rattle.path_graph.specs.Sums.{sum_below}
 use Rattle.path_graph.proofs.IntLemmas.{pos_mul-≤, times_choice, times_less, times_more, add_le, put_back}
@@ -30,7 +31,7 @@ use Rattle.multipliers.proofs.PlanSumLemmas.{plan_sum-add, plan_sum-same, plan_s
 use Rattle.safe_bound.specs.declared.bounds.Bound.{Bound}
 use Rattle.safe_bound.specs.declared.bounds.Bound.TheVariants.{Value, NoPaths}
 use Rattle.safe_bound.specs.Promise.{BoundHolds, LimitHolds}
-use Rattle.safe_bound.specs.Bounds.{AreLeasts, IsBound, IsFrom, IsUpTo, all_above, are_possible_but, bound_of, graph_term, is_none, is_possible, least_at, limit_of, others, passes_below, terms_but}
+use Rattle.safe_bound.specs.Bounds.{AreLeasts, IsBound, all_above, are_possible_but, bound_of, graph_term, is_none, is_possible, least_at, limit_of, others, passes_below, terms_but}
 
 -- a test that passes at each number
 pub passes_each : (n : ℕ) (test : ℕ → Bool) → EachBelow n (λ k. test k ≡ true) → passes_below n test ≡ true
@@ -60,15 +61,15 @@ possible_with None span n inside none =
     grind (arith, ints)
 possible_with (Some l) span n inside none = refl
 
-from_value : (least : Option ℤ) (x : ℤ) → IsFrom least x → or_zero least ≤ℤ x
+from_value : (least : Option ℤ) (x : ℤ) → IsAtLeast least x → or_zero least ≤ℤ x
 from_value None x from = absurd from
 from_value (Some l) x from = from
 
-not_none : (least : Option ℤ) (x : ℤ) → IsFrom least x → least ≢ None
+not_none : (least : Option ℤ) (x : ℤ) → IsAtLeast least x → least ≢ None
 not_none None x from none = from
 not_none (Some l) x from none = cc
 
-none_of : (leasts : List (Option ℤ)) (f : ℕ → List ℕ → ℤ) (g : ℕ) (plan : Plan) → EachBelow (length plan.paths) (λ i. IsFrom (least_at leasts (taken_at plan.paths i).graph) (f (taken_at plan.paths i).graph (taken_at plan.paths i).arcs))
+none_of : (leasts : List (Option ℤ)) (f : ℕ → List ℕ → ℤ) (g : ℕ) (plan : Plan) → EachBelow (length plan.paths) (λ i. IsAtLeast (least_at leasts (taken_at plan.paths i).graph) (f (taken_at plan.paths i).graph (taken_at plan.paths i).arcs))
     → least_at leasts g ≡ None → paths_of plan g ≡ 0
 none_of leasts f g plan from none =
     paths_none g plan.paths (λ i l same. not_none (least_at leasts (taken_at plan.paths i).graph) (f (taken_at plan.paths i).graph (taken_at plan.paths i).arcs) (from i l) (ap (least_at leasts) same ∙ none))
@@ -108,7 +109,7 @@ sum_one f (t ∷ paths) (suc i) some below counted =
 
 -- no graph shows that a place with a solution has none
 all_possible : (m : ModelParts) (boxes : Boxes) (leasts : List (Option ℤ)) (plan : Plan) (f : ℕ → List ℕ → ℤ) → SolvesWithin m boxes plan
-    → EachBelow (length plan.paths) (λ i. IsFrom (least_at leasts (taken_at plan.paths i).graph) (f (taken_at plan.paths i).graph (taken_at plan.paths i).arcs))
+    → EachBelow (length plan.paths) (λ i. IsAtLeast (least_at leasts (taken_at plan.paths i).graph) (f (taken_at plan.paths i).graph (taken_at plan.paths i).arcs))
     → EachBelow (length m.graphs) (λ g. is_possible (least_at leasts g) (span_at boxes.paths g) ≡ true)
 all_possible m boxes leasts plan f s from g below =
     possible_with (least_at leasts g) (span_at boxes.paths g) (paths_of plan g) (s.paths g below) (none_of leasts f g plan from)
@@ -136,7 +137,7 @@ bound_sum m cuts boxes mult leasts plan fits cut_fits s defined from =
 
 pub bound_holds : (m : ModelParts) (cuts : List Cut) (boxes : Boxes) (mult : Mult) (leasts : List (Option ℤ)) (plan : Plan)
     → ModelFits m → All CutFits cuts → SolvesWithin m boxes plan → AreDefined m cuts boxes mult → AreLeasts m cuts mult leasts plan
-    → IsFrom (bound_of (length m.graphs) boxes.paths leasts (base m cuts boxes mult)) (scaled (cost_of m plan))
+    → IsAtLeast (bound_of (length m.graphs) boxes.paths leasts (base m cuts boxes mult)) (scaled (cost_of m plan))
 bound_holds m cuts boxes mult leasts plan fits cut_fits s defined from =
     let go = passes_each (length m.graphs) (λ g. is_possible (least_at leasts g) (span_at boxes.paths g)) (solution_possible m cuts boxes mult leasts plan s from) in
     rw go (bound_sum m cuts boxes mult leasts plan fits cut_fits s defined from)
@@ -169,7 +170,7 @@ pub bound_told : (priced : Priced) (boxes : Boxes) (leasts : List (Option ℤ)) 
 bound_told priced boxes leasts (Value b) is m cuts mult plan fits cut_fits count are solves from =
     let holds = bound_holds m cuts boxes mult leasts plan fits cut_fits solves are.defined from in
     let same : bound_of (length m.graphs) boxes.paths leasts (base m cuts boxes mult) ≡ Some b = (λ i. bound_of (sym count i) boxes.paths leasts (sym are.base i)) ∙ is in
-    subst (λ (o : Option ℤ). IsFrom o (scaled (cost_of m plan))) same holds
+    subst (λ (o : Option ℤ). IsAtLeast o (scaled (cost_of m plan))) same holds
 bound_told priced boxes leasts (NoPaths g) is m cuts mult plan fits cut_fits count are solves from =
     is.fails (solution_possible m cuts boxes mult leasts plan solves from g (omega (arith, is.within, count)))
 
@@ -212,7 +213,7 @@ terms_beside leasts spans paths n g inside below some =
     joined r o l less paid rest sum h k e f = omega (arith, ints)
 
 -- graph g, of which a solution that costs less than z has a walk, is in none of the three cases
-some_none : (least : Option ℤ) (x : ℤ) → IsFrom least x → is_none least ≡ false
+some_none : (least : Option ℤ) (x : ℤ) → IsAtLeast least x → is_none least ≡ false
 some_none None x from = absurd from
 some_none (Some l) x from = refl
 
@@ -230,7 +231,7 @@ not_above m cuts boxes mult leasts plan i s from below =
 -- no walk of a solution that costs less than z has a reduced cost above the limit of its graph
 pub limit_holds : (m : ModelParts) (cuts : List Cut) (boxes : Boxes) (mult : Mult) (leasts : List (Option ℤ)) (plan : Plan) (z : ℤ)
     → ModelFits m → All CutFits cuts → SolvesWithin m boxes plan → AreDefined m cuts boxes mult → AreLeasts m cuts mult leasts plan → cost_of m plan <ℤ z
-    → EachBelow (length plan.paths) (λ i. IsUpTo (limit_of (length m.graphs) boxes.paths leasts (base m cuts boxes mult) (taken_at plan.paths i).graph z) (reduced_cost m cuts mult (taken_at plan.paths i).graph (taken_at plan.paths i).arcs))
+    → EachBelow (length plan.paths) (λ i. IsAtMost (limit_of (length m.graphs) boxes.paths leasts (base m cuts boxes mult) (taken_at plan.paths i).graph z) (reduced_cost m cuts mult (taken_at plan.paths i).graph (taken_at plan.paths i).arcs))
 limit_holds m cuts boxes mult leasts plan z fits cut_fits s defined from cheap i below =
     let g : ℕ = (taken_at plan.paths i).graph in
     let count : ℕ = length m.graphs in
@@ -253,8 +254,8 @@ pub limit_told : (priced : Priced) (boxes : Boxes) (leasts : List (Option ℤ)) 
 limit_told priced boxes leasts g z limit is m cuts mult plan i fits cut_fits count are solves from cheap below of_g =
     let holds = limit_holds m cuts boxes mult leasts plan z fits cut_fits solves are.defined from cheap i below in
     let same : limit_of (length m.graphs) boxes.paths leasts (base m cuts boxes mult) (taken_at plan.paths i).graph z ≡ limit = (λ k. limit_of (sym count k) boxes.paths leasts (sym are.base k) (of_g k) z) ∙ sym is in
-    subst (λ (h : ℕ). IsUpTo limit (reduced_cost m cuts mult h (taken_at plan.paths i).arcs)) of_g
-    (subst (λ (o : Option ℤ). IsUpTo o (reduced_cost m cuts mult (taken_at plan.paths i).graph (taken_at plan.paths i).arcs)) same holds)
+    subst (λ (h : ℕ). IsAtMost limit (reduced_cost m cuts mult h (taken_at plan.paths i).arcs)) of_g
+    (subst (λ (o : Option ℤ). IsAtMost o (reduced_cost m cuts mult (taken_at plan.paths i).graph (taken_at plan.paths i).arcs)) same holds)
 
 -- the limit as code makes it
 pub passes_fails : (n : ℕ) (test : ℕ → Bool) (k : ℕ) → k < n → (test k ≡ true → ⊥) → passes_below n test ≡ false

@@ -1,6 +1,7 @@
 -- The bound of a place and the limit of a walk, from the sum of the terms and a least reduced cost for each graph.
-use Rattle.std.specs.Prelude.{◌≡◌, ℕ, zero, suc, ℤ, pos, ◌+ℤ◌, ◌-ℤ◌, ◌≤ℤ◌, ◌<ℤ◌, int_le, Bool, true, false, not, ◌&&◌, ◌||◌, ◌==◌, if◌then◌else◌, Option, None, Some, MatchOption, List, length, slice_index_or}
+use Rattle.std.specs.Prelude.{◌≡◌, ℕ, zero, suc, ℤ, pos, ◌+ℤ◌, ◌-ℤ◌, ◌≤ℤ◌, ◌<ℤ◌, int_le, Bool, true, false, not, ◌&&◌, ◌||◌, ◌==◌, if◌then◌else◌, Option, None, Some, List, length, slice_index_or}
 use Rattle.std.specs.Int.{int_max}
+use Rattle.path_graph.specs.Bounds.{IsAtLeast}
 use Rattle.path_graph.specs.First.{EachBelow, IsFirstFault}
 use Rattle.path_graph.specs.Sums.{sum_below}
 use Rattle.rank1_cuts.specs.declared.cut.Cut.{Cut}
@@ -18,18 +19,10 @@ use Rattle.safe_bound.specs.declared.bounds.Bound.TheVariants.{Value, NoPaths}
 abbrev pub least_at : List (Option ℤ) → ℕ → Option ℤ
 least_at leasts g = slice_index_or leasts g None
 
--- the number is not below the least, and there is one
-abbrev pub IsFrom : Option ℤ → ℤ → Type 0
-IsFrom least x = MatchOption least ⊥ (λ l. l ≤ℤ x)
-
--- the number is not above the limit, and there is one
-abbrev pub IsUpTo : Option ℤ → ℤ → Type 0
-IsUpTo limit x = MatchOption limit ⊥ (λ l. x ≤ℤ l)
-
 -- no walk of the plan has a reduced cost below the least of its graph
 abbrev pub AreLeasts : ModelParts → List Cut → Mult → List (Option ℤ) → Plan → Type 0
 AreLeasts m cuts mult leasts plan =
-    EachBelow (length plan.paths) (λ i. IsFrom (least_at leasts (taken_at plan.paths i).graph) (reduced_cost m cuts mult (taken_at plan.paths i).graph (taken_at plan.paths i).arcs))
+    EachBelow (length plan.paths) (λ i. IsAtLeast (least_at leasts (taken_at plan.paths i).graph) (reduced_cost m cuts mult (taken_at plan.paths i).graph (taken_at plan.paths i).arcs))
 
 -- what a graph adds: the term of its least over the box of its path count, 0 for none
 abbrev pub graph_term : Option ℤ → Span → ℤ

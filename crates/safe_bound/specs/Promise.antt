@@ -1,5 +1,6 @@
 -- What a bound and a limit promise, and the ranges of leasts, bounds and limits.
 use Rattle.std.specs.Prelude.{◌≡◌, ℕ, ◌<◌, ◌^◌, ℤ, pos, ◌≤ℤ◌, ◌<ℤ◌, Option, IfSome, List, length, All}
+use Rattle.path_graph.specs.Bounds.{IsAtMost}
 use Rattle.path_graph.specs.declared.limits.TheConstants.{MAX_PATHS}
 use Rattle.path_graph.specs.Within.{IsWithin}
 use Rattle.rank1_cuts.specs.declared.cut.Cut.{Cut}
@@ -17,7 +18,7 @@ use Rattle.multipliers.specs.Priced.{IsPriced}
 use Rattle.multipliers.specs.Quantities.{reduced_cost}
 use Rattle.safe_bound.specs.declared.bounds.Bound.{Bound}
 use Rattle.safe_bound.specs.declared.bounds.Bound.TheVariants.{Value, NoPaths}
-use Rattle.safe_bound.specs.Bounds.{AreLeasts, IsUnder, IsUpTo}
+use Rattle.safe_bound.specs.Bounds.{AreLeasts, IsUnder}
 
 -- one least for each graph, within 2^112 of 0 where there is one
 abbrev pub IsLeastNear : Option ℤ → Type 0
@@ -50,4 +51,4 @@ abbrev pub LimitHolds : Priced → Boxes → List (Option ℤ) → ℕ → ℤ �
 LimitHolds priced boxes leasts g z limit =
     (m : ModelParts) (cuts : List Cut) (mult : Mult) (plan : Plan) (i : ℕ) → ModelFits m → All CutFits cuts → length boxes.paths ≡ length m.graphs
     → IsPriced m cuts boxes mult priced → SolvesWithin m boxes plan → AreLeasts m cuts mult leasts plan → cost_of m plan <ℤ z
-    → i < length plan.paths → (taken_at plan.paths i).graph ≡ g → IsUpTo limit (reduced_cost m cuts mult g (taken_at plan.paths i).arcs)
+    → i < length plan.paths → (taken_at plan.paths i).graph ≡ g → IsAtMost limit (reduced_cost m cuts mult g (taken_at plan.paths i).arcs)
