@@ -10,7 +10,7 @@ use Rattle.line_text.specs.declared.fault.TextFault.{TextFault}
 use Rattle.model_text.specs.Spelling.{Spells}
 use Rattle.model_text.specs.Refusal.{IsRefusedFor}
 use Rattle.model_text.proofs.SpellsLawLemmas.{spells_one}
-use Rattle.model_text.proofs.PlanSpelledLemmas.{spells_one_plan}
+use Rattle.model_text.proofs.PlanLaws.{spells_one_plan}
 use Rattle.vrp_cli.specs.declared.limits.TheConstants.{MAX_INPUT}
 use Rattle.vrp_cli.specs.declared.command.Command.{Command}
 use Rattle.vrp_cli.specs.declared.command.Command.TheVariants.{Solve, Print, Eval}
