@@ -247,13 +247,18 @@ spelled_reads {g = g} {value = value} is text v spells =
     ended : (e : _) → g.is_ended e ≡ true → end_wanted (reading_of g) text e ≡ Ok e
     ended e is = rw is refl
 
--- a text spells at most one value, and none where it has a fault
-pub spells_one : {D I V : Type 0} {g : Grammar D I} {Fits : D → Type 0} {Line : I → Words → Type 0} {form : I → Words} {May : D → I → Type 0} {value : D → V} {Says : V → List I → Type 0} → IsText g Fits Line form May value Says → (text : List ℕ) (e : D) (v : V) → text_read (reading_of g) text ≡ Ok e → SpellsBy Line Says text v → v ≡ value e
-spells_one {D = D} {value = value} is text e v h spells =
+-- a text spells no other value than the one that is read, so at most one value, and none where it has a fault
+pub reads_one : {D I V : Type 0} {g : Grammar D I} {Fits : D → Type 0} {Line : I → Words → Type 0} {form : I → Words} {May : D → I → Type 0} {value : D → V} {Says : V → List I → Type 0} → IsText g Fits Line form May value Says → (text : List ℕ) (e : D) (v : V) → text_read (reading_of g) text ≡ Ok e → SpellsBy Line Says text v → v ≡ value e
+reads_one {D = D} {value = value} is text e v h spells =
     let reading = spelled_reads is text v spells in
     let both = sym reading.read ∙ h in
     let same : reading.told ≡ e = cc in
     sym reading.same ∙ ap value same
+
+pub spells_one : {D I V : Type 0} {g : Grammar D I} {Fits : D → Type 0} {Line : I → Words → Type 0} {form : I → Words} {May : D → I → Type 0} {value : D → V} {Says : V → List I → Type 0} → IsText g Fits Line form May value Says → (text : List ℕ) (v w : V) → SpellsBy Line Says text v → SpellsBy Line Says text w → v ≡ w
+spells_one is text v w spells other =
+    let reading = spelled_reads is text w other in
+    reads_one is text reading.told v reading.read spells ∙ reading.same
 
 pub fault_spells_nothing : {D I V : Type 0} {g : Grammar D I} {Fits : D → Type 0} {Line : I → Words → Type 0} {form : I → Words} {May : D → I → Type 0} {value : D → V} {Says : V → List I → Type 0} → IsText g Fits Line form May value Says → (text : List ℕ) (first : TextFault) (v : V) → text_read (reading_of g) text ≡ Err first → SpellsBy Line Says text v → ⊥
 fault_spells_nothing is text first v h spells =

@@ -19,7 +19,7 @@ use Rattle.line_text.specs.Spelling.{lines_with_words}
 use Rattle.line_text.specs.Spelling.{line_of_words, text_of_lines, IsPrintedText}
 use Rattle.line_text.proofs.PlainLineLemmas.{text_of-append}
 use Rattle.line_text.proofs.RuleReads.{form_of}
-use Rattle.line_text.proofs.TextLaws.{ByForm, forms_of, pairs_of, IsText, IsStep, SpellsBy, Runs, Leads, runs_said, leads_append, leads_weaker, leads_each, reads_spelled, IsReadAs, spelled_reads, spells_one, fault_spells_nothing, printed_spells, printed_is_printed, printed_only}
+use Rattle.line_text.proofs.TextLaws.{ByForm, forms_of, pairs_of, IsText, IsStep, SpellsBy, Runs, Leads, runs_said, leads_append, leads_weaker, leads_each, reads_spelled, reads_one, spells_one, fault_spells_nothing, printed_spells, printed_is_printed, printed_only}
 use Rattle.model_text.specs.declared.path_reader.PlanDraft.{PlanDraft}
 use Rattle.model_text.specs.PathText.{path_words, plan_lines, plan_text, PathFits, PlanFits, SpellsPlan, SpellsNoPlan}
 use Rattle.model_text.specs.PathFault.{PathItem, Path, End, with_path, put, path_grammar, plan_read, IsPathRefusal}
@@ -105,13 +105,10 @@ pub plan_reads_spelled : (text : List ℕ) (d : PlanDraft) → plan_read text �
 plan_reads_spelled text d h = spelled text d.plan (reads_spelled path_text text d h)
 
 pub spelled_is_read : (text : List ℕ) (d : PlanDraft) (plan : Plan) → plan_read text ≡ Ok d → SpellsPlan text plan → plan ≡ d.plan
-spelled_is_read text d plan h s = spells_one path_text text d plan h (spelled_by text plan s)
+spelled_is_read text d plan h s = reads_one path_text text d plan h (spelled_by text plan s)
 
--- a text spells at most one plan
-pub spells_one_plan : (text : List ℕ) (p q : Plan) → SpellsPlan text p → SpellsPlan text q → p ≡ q
-spells_one_plan text p q one other =
-    let read = spelled_reads path_text text p (spelled_by text p one) in
-    sym read.same ∙ sym (spelled_is_read text read.told q read.read other)
+pub spells_one_plan : (text : List ℕ) (plan other : Plan) → SpellsPlan text plan → SpellsPlan text other → plan ≡ other
+spells_one_plan text plan other s t = spells_one path_text text plan other (spelled_by text plan s) (spelled_by text other t)
 
 pub fault_spells_no_plan : (text : List ℕ) (fault : TextFault) → plan_read text ≡ Err fault → SpellsNoPlan text
 fault_spells_no_plan text fault h plan s = fault_spells_nothing path_text text fault plan h (spelled_by text plan s)
