@@ -22,3 +22,4 @@ pub mod ListTests
 mod Examples
 pub mod TableWallLemmas
 pub mod TableCountLemmas
+pub mod ChoiceLemmas

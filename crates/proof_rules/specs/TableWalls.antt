@@ -3,6 +3,7 @@ use Rattle.std.specs.Prelude.{◌≡◌, ◌≢◌, ℕ, suc, ◌<◌, ℤ, Opti
 use Rattle.std.specs.List.{AllPairs}
 use Rattle.path_graph.specs.declared.set_bits.SetBits.{SetBits}
 use Rattle.path_graph.specs.Fit.{int_at}
+use Rattle.path_graph.specs.Walk.{Leads}
 use Rattle.rank1_cuts.specs.declared.cut.Cut.{Cut}
 use Rattle.rank1_cuts.specs.Fit.{CutFits}
 use Rattle.route_model.specs.declared.multipliers.Mult.{Mult}
@@ -18,7 +19,7 @@ use Rattle.label_core.specs.Walks.{AreDifferentWalks, Reaches, origin}
 use Rattle.label_core.specs.Points.{IsSound}
 use Rattle.label_core.specs.Puts.{CoversNot}
 use Rattle.label_rules.specs.declared.label.Label.{Label}
-use Rattle.label_rules.specs.Labels.{CanExtend, Direction, Setting, extended}
+use Rattle.label_rules.specs.Labels.{Backward, CanExtend, Direction, Forward, HasBackwardLabel, HasForwardLabel, Setting, extended}
 use Rattle.label_rules.specs.Dominance.{Dominates}
 use Rattle.label_rules.specs.Spaces.{onward, rules}
 use Rattle.proof_rules.specs.Places.{setting_at}
@@ -89,3 +90,23 @@ pub record AreDifferentChoices (r : Rules Label) (lists : List (List ℕ)) : Typ
 abbrev pub TableWallLaw : Type 0
 TableWallLaw = (limit : ℕ) (direction : Direction) (S : Setting) (t : Cells Label) → (wall : IsTableOver limit direction S t)
     → (lists : List (List ℕ)) × (length lists ≡ suc limit) × AreDifferentChoices (rules direction S None wall.cells wall.cell_of) lists
+
+-- the label of the partial walk, or of the rest, is defined
+pub record IsForwardWalk (S : Setting) (arcs : List ℕ) : Type 0 where
+  pub ends : ℕ
+  pub leads : Leads S.graph S.graph.ends.source arcs ends
+  pub label : HasForwardLabel S arcs
+
+pub record IsBackwardWalk (S : Setting) (arcs : List ℕ) : Type 0 where
+  pub begins : ℕ
+  pub leads : Leads S.graph begins arcs S.graph.ends.sink
+  pub label : HasBackwardLabel S arcs
+
+abbrev pub IsWalkIn : Direction → Setting → List ℕ → Type 0
+IsWalkIn Forward S arcs = IsForwardWalk S arcs
+IsWalkIn Backward S arcs = IsBackwardWalk S arcs
+
+-- so there are more different ones than the limit
+abbrev pub TableWalksLaw : Type 0
+TableWalksLaw = (limit : ℕ) (direction : Direction) (S : Setting) (t : Cells Label) → IsTableOver limit direction S t
+    → (walks : List (List ℕ)) × (length walks ≡ suc limit) × All (IsWalkIn direction S) walks × AllPairs (λ x y. x ≢ y) walks

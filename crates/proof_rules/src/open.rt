@@ -1,7 +1,7 @@
 ghost use Rattle.proof_rules.specs.ListWalls.{ListWallLaw};
 ghost use Rattle.proof_rules.specs.NodeWalls.{OpenValueLaw, WallBoundLaw, WallTreeLaw};
 ghost use Rattle.proof_rules.specs.OpenTrees.{RoundedUpLaw};
-ghost use Rattle.proof_rules.specs.TableWalls.{FilledLaw, TableWallLaw};
+ghost use Rattle.proof_rules.specs.TableWalls.{FilledLaw, TableWallLaw, TableWalksLaw};
 
 /// A bound divided by 65,536 and rounded up is at most each cost that it bounds.
 pub fn rounding_keeps_bounds()
@@ -31,8 +31,9 @@ pub fn filled_tables_are_walls()
     ensures { FilledLaw }
 {}
 
-/// Where a table stops at a limit of labels, there are more different partial walks, or rests, than the limit: lists of
-/// choices from the root, each extension defined.
+/// Where a table stops at a limit of labels, there are more different lists of choices from the root than the limit, each
+/// extension defined; and so more different partial walks, or rests, of the graph whose labels are defined.
 pub fn table_walls_show_walks()
-    ensures { TableWallLaw }
+    ensures choices { TableWallLaw }
+    ensures walks { TableWalksLaw }
 {}
