@@ -156,7 +156,7 @@ arc 2 1 1 3
 arc 1 3 0 4
 arc 2 3 0 5
 end
-rows -1
+rows -1 0
 open 0
 
 # Two open sides that are needed: the first is told.
@@ -237,7 +237,7 @@ arc 1 4 0
 arc 2 4 0
 arc 3 4 0
 end
-vars 131072 131072 131072
+vars 131072 131072 131072 0
 cut 131072 0 1 2
 base 262144
 arcs 0 0 0 -131072 -131072 -131072 -131072 -131072 -131072 0 0 0

@@ -1,5 +1,5 @@
 -- Worked rows of terms and of what multipliers take from a unit, by computing.
-use Rattle.std.proofs.Common.{◌≡◌, ℤ, pos, negsuc, Option, None, Some, List, [], ◌∷◌, refl}
+use Rattle.std.proofs.Common.{◌≡◌, pos, negsuc, None, Some, List, [], ◌∷◌, refl}
 use Rattle.route_model.specs.declared.parts.RowTerm.{RowTerm}
 use Rattle.route_model.specs.Terms.{or_zero, term, up_to}
 use Rattle.multipliers.specs.Priced.{coef_in, visit_cost}

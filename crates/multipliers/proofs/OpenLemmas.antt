@@ -1,12 +1,11 @@
 -- The first quantity whose multiplier needs an open side is a row.
-use Rattle.std.proofs.Common.{◌≡◌, ℕ, ◌+◌, ◌<◌, ◌≤◌, ℤ, pos, List, [], ◌∷◌, ◌++◌, length, map, take, drop, get_or, Option, None, Some, All, refl, sym, ◌∙◌, ap, subst, append_assoc, add-one, arith}
-use Rattle.std.specs.Prelude.{IsSome, neg_ℤ, slice_index}
+use Rattle.std.proofs.Common.{◌≡◌, ℕ, ◌+◌, ◌<◌, ℤ, List, ◌∷◌, ◌++◌, length, map, take, drop, get_or, Option, None, Some, All, refl, sym, ◌∙◌, ap, subst, append_assoc, add-one, arith}
+use Rattle.std.specs.Prelude.{IsSome}
 use Rattle.std.specs.List.{range_with_len}
 use Rattle.std.proofs.lemmas.List.{take-append-drop}
 use Rattle.std.proofs.lemmas.List.Elements.{All-append, All-map}
 use Rattle.std.proofs.lemmas.List.FromFn.{get_or-map-range_with_len, length-map-range_with_len, take-map-range_with_len}
 use Rattle.std.proofs.Math.Seq.{drop-cons}
-use Rattle.path_graph.specs.First.{EachBelow}
 use Rattle.path_graph.specs.Fit.{int_at}
 use Rattle.rank1_cuts.specs.declared.cut.Cut.{Cut}
 use Rattle.route_model.specs.declared.multipliers.Mult.{Mult}
@@ -16,7 +15,7 @@ use Rattle.route_model.specs.declared.places.Boxes.{Boxes}
 use Rattle.route_model.specs.Parts.{ModelParts}
 use Rattle.route_model.specs.Places.{span_at}
 use Rattle.multipliers.specs.Priced.{IsFirstOpen, IsOpenRow}
-use Rattle.multipliers.specs.Quantities.{HaveTerms, quantities, term_of}
+use Rattle.multipliers.specs.Quantities.{term_of}
 use Rattle.multipliers.proofs.DualityLemmas.{All-range, defined_in}
 
 -- a list is what stands before a place, the item there, and what stands after it

@@ -1,22 +1,16 @@
 -- How far reduced costs along arcs are from 0, and the ranges of priced numbers.
-use Rattle.std.proofs.Common.{◌≡◌, ℕ, zero, suc, ◌+◌, ◌*◌, ◌^◌, ◌<◌, ◌≤◌, ℤ, pos, neg_ℤ, ◌+ℤ◌, ◌-ℤ◌, ◌*ℤ◌, ◌≤ℤ◌, Bool, true, false, Option, None, Some, List, [], ◌∷◌, ◌++◌, length, map, All, get_or, unsigned_abs, refl, sym, ◌∙◌, ap, subst, mul-le-mul, mul-le-mul_left, mul-le-mul_right, ◌-◌, arith}
-use Rattle.std.specs.Prelude.{IfSome, if◌then◌else◌, slice_index, sum_by}
+use Rattle.std.proofs.Common.{◌≡◌, ℕ, zero, suc, ◌+◌, ◌*◌, ◌^◌, ◌<◌, ◌≤◌, ℤ, pos, neg_ℤ, ◌+ℤ◌, ◌-ℤ◌, ◌*ℤ◌, ◌≤ℤ◌, Bool, true, false, Option, None, Some, List, [], ◌∷◌, ◌++◌, length, All, unsigned_abs, refl, ◌∙◌, ap, mul-le-mul, mul-le-mul_left, mul-le-mul_right, ◌-◌, arith}
+use Rattle.std.specs.Prelude.{IfSome, if◌then◌else◌, slice_index}
 use Rattle.std.proofs.lemmas.Int.{ints}
-use Rattle.std.proofs.lemmas.List.{get_or_default}
-use Rattle.std.proofs.lemmas.List.Elements.{All-map}
-use Rattle.std.proofs.lemmas.List.Sums.{sum_by-cons}
 use lib.IntN.{+ℤ_idr}
-use Rattle.path_graph.specs.declared.parts.Values.{Values}
 use Rattle.path_graph.specs.First.{EachBelow}
 use Rattle.path_graph.specs.Fit.{int_at}
-use Rattle.path_graph.specs.Level.{level_of}
-use Rattle.path_graph.specs.Rest.{IsPartial}
-use Rattle.path_graph.specs.Sums.{sum_below, sum_over}
+use Rattle.path_graph.specs.Sums.{sum_below}
 use Rattle.path_graph.specs.Visits.{visit_over, visits_along}
 use Rattle.path_graph.specs.Walk.{GraphParts, IsGraph, Leads, Passes, root_of, values_at_end}
 use Rattle.path_graph.specs.Within.{IsWithin}
 use Rattle.path_graph.proofs.LevelLemmas.{level_at_end, level_within}
-use Rattle.path_graph.proofs.SumLemmas.{product_within, sum_over-append, within_abs}
+use Rattle.path_graph.proofs.SumLemmas.{sum_over-append, within_abs}
 use Rattle.path_graph.proofs.VisitLemmas.{visits_along-append}
 use Rattle.path_graph.proofs.WalkLemmas.{end_within, leads_split, root_is_within, within_at_end}
 use Rattle.rank1_cuts.specs.declared.cut.Cut.{Cut}
@@ -24,10 +18,10 @@ use Rattle.rank1_cuts.specs.Visits.{coef_of, rises, rises_from, state_after, sta
 use Rattle.rank1_cuts.proofs.VisitsLemmas.{rises_from-more}
 use Rattle.route_model.specs.declared.multipliers.Mult.{Mult}
 use Rattle.route_model.specs.Fit.{ModelFits}
-use Rattle.route_model.specs.Parts.{ModelParts, graph_in, mapped_vars}
-use Rattle.multipliers.specs.Priced.{arc_cost, arcs_cost, cuts_cost, reduced_unit, start_cost, visit_mult}
+use Rattle.route_model.specs.Parts.{ModelParts, graph_in}
+use Rattle.multipliers.specs.Priced.{arc_cost, arcs_cost, cuts_cost, start_cost, visit_mult}
 use Rattle.multipliers.specs.Promise.{ArcsAddLittle, PartialWalksStayNear}
-use Rattle.multipliers.specs.Quantities.{cut_at, reduced_cost}
+use Rattle.multipliers.specs.Quantities.{cut_at}
 use Rattle.multipliers.specs.Ranges.{CutsFit, MultFits}
 use Rattle.multipliers.proofs.CutLemmas.{no_set_past}
 use Rattle.multipliers.proofs.NearLemmas.{arc_near}

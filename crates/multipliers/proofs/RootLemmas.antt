@@ -1,5 +1,5 @@
 -- The place at the root: it is one of the model, and its solutions are those of the model.
-use Rattle.std.proofs.Common.{◌≡◌, ℕ, ◌+◌, ◌<◌, ◌≤◌, ℤ, pos, ◌≤ℤ◌, Bool, false, List, [], ◌∷◌, ◌++◌, length, map, take, get_or, refl, sym, ◌∙◌, ap, subst, arith}
+use Rattle.std.proofs.Common.{◌≡◌, ℕ, ◌+◌, ◌<◌, pos, ◌≤ℤ◌, Bool, false, List, [], ◌∷◌, ◌++◌, length, map, take, get_or, sym, ◌∙◌, ap, subst, arith}
 use Rattle.std.specs.Prelude.{◌↔◌}
 use Rattle.std.proofs.lemmas.Int.{ints}
 use Rattle.std.proofs.lemmas.List.{take_more, map-append, length-map}
@@ -8,7 +8,6 @@ use Rattle.path_graph.specs.declared.parts.GraphArc.{GraphArc}
 use Rattle.path_graph.specs.Walk.{GraphParts, arc_at}
 use Rattle.route_model.specs.declared.parts.Var.{Var}
 use Rattle.route_model.specs.declared.places.Span.{Span}
-use Rattle.route_model.specs.declared.places.Spot.{Spot}
 use Rattle.route_model.specs.declared.plan.Plan.{Plan}
 use Rattle.route_model.specs.Fit.{ModelFits}
 use Rattle.route_model.specs.Parts.{ModelParts, graph_in, taken_at, var_at}

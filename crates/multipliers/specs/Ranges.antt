@@ -1,5 +1,5 @@
 -- What `priced` asks of multipliers and cuts, and the ranges of what it gives.
-use Rattle.std.specs.Prelude.{◌≡◌, ◌*◌, ◌^◌, ◌+◌, ◌≤◌, ℤ, pos, ◌≤ℤ◌, unsigned_abs, sum_by, List, length, All}
+use Rattle.std.specs.Prelude.{◌≡◌, ◌^◌, ◌+◌, ◌≤◌, ℤ, pos, ◌≤ℤ◌, unsigned_abs, sum_by, List, length, All}
 use Rattle.path_graph.specs.First.{EachBelow}
 use Rattle.path_graph.specs.Fit.{int_at}
 use Rattle.path_graph.specs.Within.{IsWithin}

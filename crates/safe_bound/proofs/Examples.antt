@@ -1,5 +1,5 @@
 -- Worked rows of bounds and limits, by computing.
-use Rattle.std.proofs.Common.{◌≡◌, ℤ, pos, negsuc, Option, None, Some, List, [], ◌∷◌, true, false, refl}
+use Rattle.std.proofs.Common.{◌≡◌, pos, negsuc, None, Some, List, [], ◌∷◌, true, false, refl}
 use Rattle.route_model.specs.declared.places.Span.{Span}
 use Rattle.safe_bound.specs.Bounds.{all_above, bound_of, limit_of}
 

@@ -11,11 +11,7 @@ use route_model::Span;
 use route_model::wide::added;
 
 /// The first graph, but one, that has no walk and must have a path.
-pub(crate) fn first_impossible(
-    spans: &[Span],
-    leasts: &[Option<i128>],
-    but: usize,
-) -> Option<u32>
+pub(crate) fn first_impossible(spans: &[Span], leasts: &[Option<i128>], but: usize) -> Option<u32>
     requires paths { PathsFit spans.now }
     requires leasts { LeastsFit spans.now leasts.now }
     ensures { MatchOption result

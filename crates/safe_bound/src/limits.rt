@@ -35,13 +35,7 @@ pub fn walk_limit(
 }
 
 /// The limit from the sum of the terms and the boxes of the path counts.
-fn limit_from(
-    spans: &[Span],
-    base: i128,
-    leasts: &[Option<i128>],
-    g: usize,
-    z: i64,
-) -> Option<i128>
+fn limit_from(spans: &[Span], base: i128, leasts: &[Option<i128>], g: usize, z: i64) -> Option<i128>
     requires base { IsWithin (2 ^ 107) base }
     requires paths { PathsFit spans.now }
     requires leasts { LeastsFit spans.now leasts.now }

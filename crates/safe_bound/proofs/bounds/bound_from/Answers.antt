@@ -1,4 +1,4 @@
-use Rattle.std.proofs.Common.{◌≡◌, ◌+ℤ◌, ℤ, to_z, of_z, length, ap, ◌∙◌}
+use Rattle.std.proofs.Common.{◌+ℤ◌, ℤ, to_z, of_z, length, ap, ◌∙◌}
 use Rattle.std.specs.Int.{w128}
 use Rattle.safe_bound.proofs.BoundLemmas.{bound_made}
 use Rattle.safe_bound.proofs.BoundSteps.{sum_told}

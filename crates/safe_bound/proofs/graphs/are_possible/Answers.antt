@@ -1,4 +1,4 @@
-use Rattle.std.proofs.Common.{◌≡◌, ◌==◌, ◌||◌, ℕ, Bool, true, length, sym}
+use Rattle.std.proofs.Common.{◌==◌, ◌||◌, length, sym}
 use Rattle.route_model.specs.Places.{span_at}
 use Rattle.safe_bound.specs.Bounds.{is_possible, least_at}
 use Rattle.safe_bound.proofs.BoundLemmas.{passes_each, passes_fails}

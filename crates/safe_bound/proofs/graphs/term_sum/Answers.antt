@@ -1,6 +1,6 @@
-use Rattle.std.proofs.Common.{ℤ, to_z, of_z, length}
+use Rattle.std.proofs.Common.{to_z}
 use Rattle.std.specs.Int.{w128}
-use Rattle.safe_bound.proofs.BoundSteps.{count_box, terms_fit, terms_range, terms_step}
+use Rattle.safe_bound.proofs.BoundSteps.{terms_fit, terms_step}
 use Rattle.safe_bound.proofs.graphs.term_sum.Goals as goal
 
 pub added-total-requires : goal.added-total-requires

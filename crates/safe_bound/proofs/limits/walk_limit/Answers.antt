@@ -1,4 +1,4 @@
-use Rattle.std.proofs.Common.{ℤ, List, FitsSigned, to_z, of_z, w64, length, ◌∙◌, arith}
+use Rattle.std.proofs.Common.{ℤ, FitsSigned, w64, length, ◌∙◌, arith}
 use Rattle.std.specs.Int.{w128}
 use Rattle.std.proofs.lemmas.Int.{ints, to_z-of_z}
 use Rattle.safe_bound.specs.Bounds.{limit_of}
