@@ -257,3 +257,95 @@ vertex - 0 1
 arc 0 1 1 1
 end
 ";
+
+/// A depot, five customers with demands, at most three vehicles of capacity 5: the worked example of the README.
+pub const FIVE_CUSTOMERS: &str = "vrpmodel 1
+var 0 2 4
+var 0 2 5
+var 0 2 6
+var 0 2 3
+var 0 2 5
+var 0 1 3
+var 0 1 4
+var 0 1 5
+var 0 1 2
+row 2 2 0 1 5 1
+row 2 2 1 1 5 1 6 1
+row 2 2 2 1 6 1 7 1
+row 2 2 3 1 7 1 8 1
+row 2 2 4 1 8 1
+sets 5
+graph 7 0 6 0 3 1 0
+vertex - 0 5
+vertex 0 0 5
+vertex 1 0 5
+vertex 2 0 5
+vertex 3 0 5
+vertex 4 0 5
+vertex - 0 5
+arc 0 1 2 0
+arc 0 2 1 1
+arc 0 3 3 2
+arc 0 4 2 3
+arc 0 5 1 4
+arc 1 2 1 5
+arc 2 1 2 5
+arc 2 3 3 6
+arc 3 2 1 6
+arc 3 4 2 7
+arc 4 3 3 7
+arc 4 5 1 8
+arc 5 4 2 8
+arc 1 6 0 0
+arc 2 6 0 1
+arc 3 6 0 2
+arc 4 6 0 3
+arc 5 6 0 4
+end
+";
+
+/// The same with time windows, which no path through both the second and the third customer keeps.
+pub const TIME_WINDOWS: &str = "vrpmodel 1
+var 0 2 4
+var 0 2 5
+var 0 2 6
+var 0 2 3
+var 0 2 5
+var 0 1 3
+var 0 1 4
+var 0 1 5
+var 0 1 2
+row 2 2 0 1 5 1
+row 2 2 1 1 5 1 6 1
+row 2 2 2 1 6 1 7 1
+row 2 2 3 1 7 1 8 1
+row 2 2 4 1 8 1
+sets 5
+graph 7 0 6 0 3 1 1
+vertex - 0 5 0 20
+vertex 0 0 5 0 12
+vertex 1 0 5 0 6
+vertex 2 0 5 6 8
+vertex 3 0 5 0 5
+vertex 4 0 5 8 12
+vertex - 0 5 0 20
+arc 0 1 2 4 0
+arc 0 2 1 5 1
+arc 0 3 3 6 2
+arc 0 4 2 3 3
+arc 0 5 1 5 4
+arc 1 2 1 3 5
+arc 2 1 2 3 5
+arc 2 3 3 4 6
+arc 3 2 1 4 6
+arc 3 4 2 5 7
+arc 4 3 3 5 7
+arc 4 5 1 2 8
+arc 5 4 2 2 8
+arc 1 6 0 4 0
+arc 2 6 0 5 1
+arc 3 6 0 6 2
+arc 4 6 0 3 3
+arc 5 6 0 5 4
+end
+";

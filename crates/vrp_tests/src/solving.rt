@@ -47,6 +47,20 @@ fn solved(rt: HostRuntime) -> Result<(), Fail> {
             0,
             "optimal -6\npath 0 2 0\npath 0 1 1\n",
         ),
+        // A alone, B and C, D and E: 8 + 15 + 10. By hand, and by trying all routes.
+        (
+            "five customers",
+            texts::FIVE_CUSTOMERS,
+            0,
+            "optimal 33\npath 0 1 0 13\npath 0 1 1 7 15\npath 0 1 3 11 17\n",
+        ),
+        // B before A, C alone, D before E: 12 + 12 + 10, the only routes of this cost.
+        (
+            "time windows",
+            texts::TIME_WINDOWS,
+            0,
+            "optimal 34\npath 0 1 1 6 13\npath 0 1 2 15\npath 0 1 3 11 17\n",
+        ),
         // 5 of the first graph and 2 of the second.
         (
             "two graphs",
