@@ -66,13 +66,13 @@ proof_of mult form least fore back = record {
 }
 
 -- room for two, a bound of 9 against 9: it closes at the root
-abbrev wide : ModelParts
+abbrev pub wide : ModelParts
 wide = model_on (small 2 0 2)
 
-abbrev wide_root : Spot
+abbrev pub wide_root : Spot
 wide_root = root_place wide
 
-abbrev priced : Proof
+abbrev pub priced : Proof
 priced = proof_of (on_rows 4 5) Full (pos 0) priced_fore []
 
 priced_is_defined : are_defined wide wide_root.boxes priced.mult ≡ true
@@ -136,10 +136,10 @@ pub splits_nothing : ¬ (IsNode wide (pos 9) (AtPlace wide_root) (SplitAt (recor
 splits_nothing h = omega (arith, ints, h.high)
 
 -- one path with room for one, and a bound of 43 against 43, one more than the cost of all variables at 2
-abbrev narrow : ModelParts
+abbrev pub narrow : ModelParts
 narrow = model_on (small 1 1 1)
 
-abbrev tight : Proof
+abbrev pub tight : Proof
 tight = proof_of (on_rows 37 37) Full (minus 31) tight_fore []
 
 abbrev narrow_root : Spot
@@ -235,7 +235,7 @@ fixed_not h = false≢true (sym above_0 ∙ (all_above_decides (setting_of wide 
 abbrev zeros : Mult
 zeros = record { vars = []; rows = []; sets = []; cuts = []; paths = [] }
 
-abbrev listing : Proof
+abbrev pub listing : Proof
 listing = proof_of zeros Both (pos 6) unpriced_fore unpriced_back
 
 abbrev step : ℕ → ℕ → Step
@@ -244,7 +244,7 @@ step parent arc = record { parent = parent; arc = arc }
 abbrev three : List Step
 three = step 0 0 ∷ step 0 1 ∷ step 1 4 ∷ []
 
-abbrev lines : List Step
+abbrev pub lines : List Step
 lines = three ++ step 2 5 ∷ []
 
 abbrev seen : Setting
@@ -362,7 +362,7 @@ incomplete h =
 abbrev walks : List Walk
 walks = listed_walks narrow narrow_root listing (lines ∷ [])
 
-abbrev priced_counts : Mult
+abbrev pub priced_counts : Mult
 priced_counts = record { vars = []; rows = pos 2424832 ∷ pos 2424832 ∷ []; sets = []; cuts = []; paths = minus 1900544 ∷ [] }
 
 counts_defined : are_defined narrow narrow_root.boxes priced_counts ≡ true

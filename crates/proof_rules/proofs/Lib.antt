@@ -19,7 +19,8 @@ pub mod OpenTreeLemmas
 pub mod ListWallLemmas
 pub mod TreeTests
 pub mod ListTests
-mod Examples
+pub mod Examples
+mod ValidExamples
 pub mod TableWallLemmas
 pub mod TableCountLemmas
 pub mod ChoiceLemmas
