@@ -53,12 +53,7 @@ fn check_priced<R: Abort>(rt: &R, alloc: Global, p: &Priced, said: &str) -> Resu
 }
 
 /// The row that needs an open side, against the one that is said.
-fn check_fault<R: Abort>(
-    rt: &R,
-    alloc: Global,
-    fault: MultFault,
-    said: &str,
-) -> Result<(), Fail> {
+fn check_fault<R: Abort>(rt: &R, alloc: Global, fault: MultFault, said: &str) -> Result<(), Fail> {
     let MultFault::OpenSide(Quantity::Row(row)) = fault else {
         return Err(Fail::new("a fault that is not an open row"));
     };

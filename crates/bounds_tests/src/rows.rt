@@ -6,7 +6,8 @@
 //! that the bound `closes`; and the `limit` of a walk of a graph against a cost. The values are worked out by hand.
 
 /// The rows, which stand apart by an empty line.
-pub const ROWS: &str = "# Four vertices, with 4 and 5 on the rows: the terms are 4 + 5, and no walk costs less than 0.
+pub const ROWS: &str =
+    "# Four vertices, with 4 and 5 on the rows: the terms are 4 + 5, and no walk costs less than 0.
 vrpmodel 1
 var 0 2 3
 var 0 2 4

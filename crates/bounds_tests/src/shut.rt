@@ -58,7 +58,11 @@ fn compare<R: Abort>(rt: &R, alloc: Global, text: &str) -> Result<(), Fail> {
     }
     let said = after(block.said, "shut").ok_or("a block without shut arcs")?;
     let shut = shut_arcs(alloc, &model, &spot)?;
-    assert_eq!(rt; shut.as_slice(), integers(alloc, said)?.as_slice(), "{text}");
+    assert_eq!(rt;
+        shut.as_slice(),
+        integers(alloc, said)?.as_slice(),
+        "{text}"
+    );
     Ok(())
 }
 

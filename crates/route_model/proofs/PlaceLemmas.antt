@@ -1,5 +1,5 @@
 -- Lemmas on places: a solution of one solves a part of it, and one with more arcs dropped that it does not use.
-use Rattle.std.proofs.Common.{◌≡◌, ◌≢◌, ◌==◌, ◌&&◌, ◌||◌, ℕ, zero, suc, ◌<◌, ◌≤◌, ℤ, pos, ◌+ℤ◌, ◌≤ℤ◌, ◌<ℤ◌, Bool, true, false, List, [], ◌∷◌, length, get_or, set, All, inl, inr, refl, sym, ◌∙◌, ap, subst, arith, get_or-set_same, get_or-set_other}
+use Rattle.std.proofs.Common.{◌≡◌, ◌≢◌, ◌==◌, ◌&&◌, ◌||◌, ℕ, suc, ◌<◌, ℤ, pos, ◌≤ℤ◌, ◌<ℤ◌, Bool, true, false, List, [], ◌∷◌, length, get_or, inl, inr, refl, sym, ◌∙◌, ap, subst, arith, get_or-set_same, get_or-set_other}
 use Rattle.std.specs.Prelude.{slice_set, slice_index_or, ◌⊎◌}
 use Rattle.std.proofs.lemmas.Bool.{cases_eq, cases_lt}
 use Rattle.std.proofs.lemmas.Bool.Decides.{nat_tests}
@@ -9,13 +9,11 @@ use Rattle.route_model.specs.declared.multipliers.Quantity.{Quantity}
 use Rattle.route_model.specs.declared.multipliers.Quantity.TheVariants.{Var, Row, Set, Cut, Paths}
 use Rattle.route_model.specs.declared.places.Boxes.{Boxes}
 use Rattle.route_model.specs.declared.places.Span.{Span}
-use Rattle.route_model.specs.declared.places.Split.{Split}
 use Rattle.route_model.specs.declared.places.Spot.{Spot}
 use Rattle.route_model.specs.declared.plan.Plan.{Plan}
-use Rattle.path_graph.specs.First.{EachBelow}
 use Rattle.route_model.specs.Parts.{ModelParts, graph_in, taken_at, var_at}
-use Rattle.route_model.specs.PlaceParts.{DropLaw, HasBox, HasMarks, KeepsLaw, NamedArc, PartsLaw, SplitFits, SplitLaw, box_in, dropping, high_part, high_place, is_named, low_part, low_place, with_box}
-use Rattle.route_model.specs.Places.{IsInSpan, IsPartOf, SolvesAt, SpotFits, UsesNone, is_dropped, marks_of, path_span, span_at, var_span}
+use Rattle.route_model.specs.PlaceParts.{DropLaw, HasBox, HasMarks, KeepsLaw, NamedArc, PartsLaw, SplitLaw, box_in, high_part, is_named, low_part, with_box}
+use Rattle.route_model.specs.Places.{IsInSpan, IsPartOf, SolvesAt, SpotFits, is_dropped, marks_of, path_span, span_at, var_span}
 use Rattle.route_model.specs.Quantities.{paths_of, value_of}
 
 -- what holds of a box, and of the one that is written in its place, holds after the write
@@ -158,6 +156,7 @@ set_one marks a b below = elim (cases_eq b a) [
       let no : (a == b) ≡ false = grind (arith, nat_tests) in
       get_or-set_other marks a b true false other ∙ (sym (or_false (slice_index_or marks b false)) ∙ ap (λ (t : Bool). slice_index_or marks b false || t) (sym no))
 ]
+
 mark_one : (fixed : List (List Bool)) (g a h b : ℕ) → g < length fixed → a < length (marks_of fixed g)
     → slice_index_or (marks_of (marked fixed g a) h) b false ≡ (slice_index_or (marks_of fixed h) b false || ((g == h) && (a == b)))
 mark_one fixed g a h b below inside = elim (cases_eq h g) [
@@ -171,6 +170,7 @@ mark_one fixed g a h b below inside = elim (cases_eq h g) [
       ap (λ (marks : List Bool). slice_index_or marks b false) (marks_other fixed g a h other)
       ∙ (sym (or_false (slice_index_or (marks_of fixed h) b false)) ∙ ap (λ (t : Bool). slice_index_or (marks_of fixed h) b false || (t && (a == b))) (sym no))
 ]
+
 abbrev with_marks : Spot → List (List Bool) → Spot
 with_marks spot fixed = record spot { fixed = fixed }
 

@@ -1,6 +1,6 @@
 -- Places of a search: boxes of variables and of path counts, and arcs that are dropped; shut arcs, and the solutions of
 -- a place.
-use Rattle.std.specs.Prelude.{◌≡◌, ℕ, ℤ, pos, int_le, ◌≤ℤ◌, Bool, false, ◌||◌, List, [], length, map, All, EachIndex, slice_index_or}
+use Rattle.std.specs.Prelude.{◌≡◌, ℕ, ℤ, pos, int_le, ◌≤ℤ◌, Bool, false, ◌||◌, List, [], length, map, All, slice_index_or}
 use Rattle.std.specs.List.{list_any}
 use Rattle.path_graph.specs.Walk.{GraphParts}
 use Rattle.route_model.specs.declared.parts.Var.{Var}
