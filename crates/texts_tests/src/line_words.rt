@@ -8,11 +8,7 @@ const LIMIT: i128 = 1 << 112;
 #[test]
 fn wide_numbers(rt: HostRuntime) -> Result<(), Fail> {
     for (name, word, expected) in [
-        (
-            "the limit",
-            "5192296858534827628530496329220096",
-            Ok(LIMIT),
-        ),
+        ("the limit", "5192296858534827628530496329220096", Ok(LIMIT)),
         (
             "the lower limit with zeros",
             "-005192296858534827628530496329220096",
