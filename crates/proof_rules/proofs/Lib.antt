@@ -1,8 +1,5 @@
 pub mod GrowsLemmas
 pub mod TreeOrderLemmas
-pub mod SlotLemmas
-pub mod PruningLemmas
-pub mod WeightLemmas
 pub mod PrefixTreeLemmas
 pub mod CompleteLemmas
 pub mod WalkListLemmas

@@ -1,8 +1,5 @@
 pub mod Grows
 pub mod TreeOrder
-pub mod Slots
-pub mod Pruning
-pub mod Weights
 pub mod PrefixTrees
 pub mod PrefixLaws
 pub mod Counts

@@ -7,7 +7,6 @@ mod counts;
 mod open;
 mod places;
 mod prefixes;
-mod slot;
 mod valid;
 
 pub use counts::{counts_have_plans, plans_have_counts};
@@ -20,7 +19,6 @@ pub use prefixes::{
     complete_trees_list_walks, nodes_have_one_prefix, prefixes_go_on, prefixes_have_labels,
     trees_grow, trees_have_partial_walks, trees_have_walks,
 };
-pub use slot::Slot;
 pub use valid::{
     nodes_are_in_preorder, nodes_keep_cheap_plans, numbers_may_fall, plans_below_stay_open,
     valid_certificates_hold,
