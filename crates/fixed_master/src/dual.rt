@@ -224,7 +224,7 @@ impl Simplex {
         }
     }
 
-    /// Takes turns until all values are within their spans. Where that fails, the regions tell which are not.
+    /// Takes turns until all values are within their spans. Where that fails, the regions say which are not.
     pub(crate) fn dual_phase(
         &mut self,
         alloc: Global,

@@ -36,7 +36,7 @@ const ANSWER_UNIT: i64 = 1 << 14;
 /// promised of quality: multipliers that are far from best still suit their sides, as bounds by duality ask.
 ///
 /// The first column whose entries are all 0 is a marker: the columns before it are the last basis, and its entries name
-/// the rows whose multiplier was not 0. In the answer weights above 0 tell which columns are basic.
+/// the rows whose multiplier was not 0. In the answer weights above 0 show which columns are basic.
 pub fn solve_master(
     alloc: Global,
     sides: &[Side],

@@ -1,7 +1,7 @@
 //! Texts of lines, for any grammar of lines: readers of lines, words and numbers, a writer of lines, and the kinds of
-//! faults.
+//! errors.
 //!
-//! The laws that tie what is read to what is spelled stand in proofs/, once for all grammars.
+//! The laws by which reading and validity agree stand in proofs/, once for all grammars.
 #![tactic(auto)]
 
 mod fault;

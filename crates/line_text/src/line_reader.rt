@@ -9,14 +9,14 @@ use crate::word_reader::{fault_if, has_word};
 use std::alloc::Global;
 use vrp_lex::{Line, bad_byte, next_line};
 
-/// What the lines of a text tell, one after the other.
+/// What the lines of a text say, one after the other.
 pub trait LineReader: Drop + Sized {
     type Told;
 
-    /// What each line tells.
+    /// What each line says.
     ghost reading: { Reading Self.Told };
 
-    /// What is told so far.
+    /// What was said so far.
     ghost told: { Self → Self.Told };
 
     /// What holds of the sums that are kept beside it.
@@ -113,7 +113,7 @@ fn take_numbered<R: LineReader>(
     }
 }
 
-/// What all lines of a text tell.
+/// What all lines of a text say.
 fn read_lines<R: LineReader>(alloc: Global, text: &[u8]) -> Result<R, ReadError>
     requires { length text.now < 2 ^ 32 - 1 }
     ensures gives { GivesText R.told result
@@ -131,7 +131,7 @@ fn read_lines<R: LineReader>(alloc: Global, text: &[u8]) -> Result<R, ReadError>
     Ok(reader)
 }
 
-/// What a text tells, or its first fault: that of the first faulty line; then the missing end.
+/// What a text says, or its first error: that of the first faulty line; then the missing end.
 ///
 /// Lines are read one after the other, each in one pass over its words.
 pub fn read_text<R: LineReader>(alloc: Global, text: &[u8]) -> Result<R, ReadError>

@@ -25,7 +25,7 @@ pub enum Stage {
 }
 
 /// A graph as far as its lines are read, with the variables of its arcs, and the number of vertices that its graph
-/// line tells.
+/// line gives.
 #[derive(Drop)]
 pub struct Section {
     pub count: u32,
@@ -35,7 +35,7 @@ pub struct Section {
     pub maps: List<List<u32>>,
 }
 
-/// What the lines of a model text tell so far.
+/// What the lines of a model text say so far.
 ///
 /// `current` is the graph whose lines are read, and `done` has the graphs before it. `end` is the number of the end
 /// line, once it is read.

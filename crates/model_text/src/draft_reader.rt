@@ -7,7 +7,7 @@ use crate::model_lines::take_line;
 use line_text::{LineFault, LineReader};
 use std::alloc::Global;
 
-/// What the lines of a model text tell so far, and for each variable the sum of its absolute coefficients.
+/// What the lines of a model text say so far, and for each variable the sum of its absolute coefficients.
 #[derive(Drop)]
 pub struct DraftReader {
     pub draft: Draft,

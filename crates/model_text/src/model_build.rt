@@ -12,7 +12,7 @@ use path_graph::{Graph, GraphFault, List, NoMemory};
 use route_model::{BuildFault, Model};
 use std::alloc::Global;
 
-/// Appends the graph that the lines of a section told.
+/// Appends the graph of the lines of a section.
 fn push_graph(alloc: Global, graphs: &mut List<Graph>, section: &Section) -> Result<(), GraphFault>
     requires { SectionPartsFit section.now }
     ensures graph { OnOk result (graphs.new ≡ graphs.old ++ graph_of section.now ∷ []) }
@@ -29,7 +29,7 @@ fn push_graph(alloc: Global, graphs: &mut List<Graph>, section: &Section) -> Res
     Ok(())
 }
 
-/// The graphs that their lines told, in order.
+/// The graphs of their lines, in order.
 fn graphs_of(alloc: Global, sections: &[Section]) -> Result<List<Graph>, GraphFault>
     requires { All SectionPartsFit sections.now }
     ensures graphs { IfOk result (λ graphs. graphs ≡ map graph_of sections.now) }
@@ -43,7 +43,7 @@ fn graphs_of(alloc: Global, sections: &[Section]) -> Result<List<Graph>, GraphFa
     Ok(graphs)
 }
 
-/// The variables of the arcs of each graph, moved out of what its lines told.
+/// The variables of the arcs of each graph, moved out of what its lines said.
 fn maps_of(alloc: Global, sections: List<Section>) -> Result<List<List<List<u32>>>, NoMemory>
     ensures { IfOk result (λ maps. maps ≡ map (λ s. s.maps) sections) }
 {
@@ -55,7 +55,7 @@ fn maps_of(alloc: Global, sections: List<Section>) -> Result<List<List<List<u32>
     Ok(List::from_vec(maps))
 }
 
-/// The model of what the lines of a text told, unless a fault is found in them together.
+/// The model of what the lines of a text said, unless an error is found in them together.
 pub fn model_of(alloc: Global, draft: Draft) -> Result<Model, ReadError>
     requires { IsTold draft }
     ensures ok { IfOk result (IsModelOf (Ok draft)) }

@@ -208,7 +208,7 @@ fn printed(alloc: Global, model: &Model) -> Result<LineWriter, NoMemory>
     Ok(text)
 }
 
-/// The printed text of a model: the one text in printed form that spells it.
+/// The printed text of a model: the one valid text of it in printed form.
 ///
 /// There is one blank between words, no comment, no leading zero, and LF after each line. The line of the sets is left
 /// out where there are none. The time is linear in the text.

@@ -9,9 +9,9 @@ use line_text::{ReadError, read_text};
 use route_model::Model;
 use std::alloc::Global;
 
-/// The model that a text spells.
+/// The model of a text.
 ///
-/// `Text` comes exactly where the text spells none, with its first fault: that of the first faulty line; then the
+/// `Text` comes exactly where the text is not valid, with its first error: that of the first faulty line; then the
 /// missing end; then, both at the line of the end, a cycle of arcs without main consumption, and the cost range. A
 /// number of any length is read. Lines are read one after the other, each in one pass over its words.
 pub fn read_model(alloc: Global, bytes: &[u8]) -> Result<Model, ReadError>

@@ -11,7 +11,7 @@ use route_model::Plan;
 use std::alloc::Global;
 use std::collections::BTreeMap;
 
-/// What the lines of a path text tell so far, and whether the end line is read.
+/// What the lines of a path text say so far, and whether the end line is read.
 #[derive(Drop)]
 pub struct PlanDraft {
     pub ended: bool,
@@ -69,7 +69,7 @@ impl LineReader for PlanReader {
     }
 }
 
-/// The plan that a path text spells.
+/// The plan of a path text.
 ///
 /// Lines, words, numbers and comments are those of model texts. Each line is `path GRAPH COUNT ARC ..`, with one arc or
 /// more, and `end` is the last. An unknown graph or arc is no fault: the judge of plans looks at these. The time is

@@ -124,7 +124,7 @@ impl Ranking {
         true
     }
 
-    /// Makes a step, and tells whether there is more to do before the root is ranked.
+    /// Makes a step, and says whether there is more to do before the root is ranked.
     fn step(
         &mut self,
         alloc: Global,

@@ -1,6 +1,6 @@
 //! Lines, words and numbers of a text.
 //!
-//! A text is bytes. The crate finds the next line, its words and the numbers that they are, and tells a byte that is
+//! A text is bytes. The crate finds the next line, its words and the numbers that they are, and finds a byte that is
 //! not accepted. It takes no memory.
 #![tactic(auto)]
 
