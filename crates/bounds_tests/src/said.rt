@@ -1,4 +1,4 @@
-//! What is said of a model in a block: lines that begin with a word, with numbers behind it.
+//! What is said of a model in a block: lines that begin with a word, followed by numbers.
 
 use model_text::read_model;
 use path_graph::{List, SetBits};
@@ -15,7 +15,7 @@ pub fn short_model(alloc: Global, text: &[u8]) -> Result<Model, Fail> {
     Ok(read_model(alloc, text)?)
 }
 
-/// What stands behind a word at the beginning of a line, the first such.
+/// The rest of the first line that begins with this word.
 pub fn after<'a>(said: &'a str, word: &str) -> Option<&'a str> {
     for line in said.lines() {
         if let Some(rest) = line.strip_prefix(word) {

@@ -29,3 +29,10 @@ pub struct Duals {
     pub mult: List<i64>,
     pub weights: List<i64>,
 }
+
+/// The rows and columns of a call.
+#[derive(Clone, Copy)]
+pub(crate) struct Input<'a> {
+    pub(crate) sides: &'a [Side],
+    pub(crate) columns: &'a [Column],
+}

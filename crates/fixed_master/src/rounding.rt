@@ -5,10 +5,15 @@ ghost use Rattle.std.specs.List.{AllZip};
 ghost use Rattle.fixed_master.specs.Duals.{IsWeight, SuitsSide};
 
 use crate::limits::{MAX_MULTIPLIER, MAX_WEIGHT};
-use crate::numbers::number;
 use crate::parts::Side;
+use crate::working::WorkingRow;
+use fixed_point::{number_at, quotient, set_number};
+use fixed_simplex::{Basic, Member};
 use path_graph::{List, NoMemory};
 use std::alloc::Global;
+
+/// A unit of a price of a row of divisor 1, in the answer.
+const ANSWER_UNIT: i64 = 1 << 14;
 
 /// The nearest multiplier that a side allows.
 fn allowed_mult(side: Side, mult: i64) -> i64
@@ -44,7 +49,7 @@ pub(crate) fn allowed_mults(
 {
     let mut mult = List::new(alloc);
     for (place, side) in sides.iter().enumerate() {
-        mult.push(allowed_mult(*side, number(found, place)))?;
+        mult.push(allowed_mult(*side, number_at(found, place)))?;
     }
     Ok(mult)
 }
@@ -60,7 +65,45 @@ pub(crate) fn allowed_weights(
 {
     let mut weights = List::new(alloc);
     for place in 0..count {
-        weights.push(allowed_weight(number(found, place)))?;
+        weights.push(allowed_weight(number_at(found, place)))?;
     }
     Ok(weights)
+}
+
+/// A price in units of 1/65,536 of an entry's price, rounded.
+fn price_in_answer(price: i64, divisor: i64) -> i64 {
+    let unit = divisor.saturating_mul(ANSWER_UNIT);
+    let half = if price < 0 { -(unit / 2) } else { unit / 2 };
+    quotient(i128::from(price) + i128::from(half), unit)
+}
+
+/// The multiplier found for each row.
+pub(crate) fn found_mults(
+    alloc: Global,
+    rows: &[WorkingRow],
+    prices: &[i64],
+    count: usize,
+) -> Result<Vec<i64>, NoMemory> {
+    let mut found = vec![in alloc; 0i64; count]?;
+    for (place, working) in rows.iter().enumerate() {
+        let price = price_in_answer(number_at(prices, place), working.divisor);
+        set_number(found.as_mut_slice(), working.row, price);
+    }
+    Ok(found)
+}
+
+/// The weight found for each column. A basic column has at least 1.
+pub(crate) fn found_weights(
+    alloc: Global,
+    basics: &[Basic],
+    count: usize,
+) -> Result<Vec<i64>, NoMemory> {
+    let mut found = vec![in alloc; 0i64; count]?;
+    for basic in basics {
+        if let Member::Column(place) = basic.member {
+            let weight = basic.value.saturating_add(128) >> 8;
+            set_number(found.as_mut_slice(), place, weight.max(1));
+        }
+    }
+    Ok(found)
 }

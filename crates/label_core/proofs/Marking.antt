@@ -13,7 +13,8 @@ use Rattle.label_core.specs.Tables.{Cells, entries_of, StandsAt, IsKept}
 use Rattle.label_core.specs.Points.{LinksOver, IsSound}
 use Rattle.label_core.specs.Puts.{gone_by, set_at, MayGo}
 use Rattle.label_core.proofs.Lookup.{some_same, same_or_apart, same_entry, set_here, set_else, set_back}
-use Rattle.label_core.proofs.Stays.{Stays, home_still, origins_still, labels_still}
+use Rattle.label_core.specs.Points.{Stays}
+use Rattle.label_core.proofs.Stays.{home_still, origins_still, labels_still}
 
 less : (a b : ℤ) → a ≤ℤ b → a ≢ b → a <ℤ b
 less a b h n = omega (arith, ints)

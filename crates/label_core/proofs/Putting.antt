@@ -15,7 +15,8 @@ use Rattle.label_core.specs.Walks.{LeadsBack}
 use Rattle.label_core.specs.Points.{LinksOver, IsSound}
 use Rattle.label_core.specs.Puts.{is_none, gone_by, beside, put_into, put, MayPut}
 use Rattle.label_core.proofs.Lookup.{at_end, at_front, front_or_end, same_place, entries_set_here, entries_set_else}
-use Rattle.label_core.proofs.Stays.{Stays, leads_back_still, root_still, parent_still}
+use Rattle.label_core.specs.Points.{Stays}
+use Rattle.label_core.proofs.Stays.{leads_back_still, root_still, parent_still}
 
 some_mapped : {A : Type 0} (f : A → A) (o : Option A) (b : A) → option_map f o ≡ Some b → (a : A) × (o ≡ Some a) × (f a ≡ b)
 some_mapped f None b e = absurd (cc)

@@ -7,15 +7,10 @@ use Rattle.label_core.specs.declared.table.Fate.TheVariants.{Void, At}
 use Rattle.label_core.specs.declared.table.Entry.{Entry}
 use Rattle.label_core.specs.Tables.{Cells, StandsAt}
 use Rattle.label_core.specs.Walks.{LeadsBack, HasOrigins}
-use Rattle.label_core.specs.Points.{HasLabels}
+use Rattle.label_core.specs.Points.{HasLabels, Stays}
 use Rattle.label_core.specs.Fates.{IsLegal, AreLegal}
 
 module _ {L : Type 0} where
-  -- each entry of t stands in u too, with its label and its origin
-  abbrev pub Stays : Cells L → Cells L → Type 0
-  Stays t u = (p : Place) (d : Entry L) → StandsAt t p d
-      → (e : Entry L) × StandsAt u p e × (e.label ≡ d.label) × (e.origin ≡ d.origin)
-
   pub leads_back_still : (t u : Cells L) → Stays t u → (arcs : List ℕ) (p : Place) → LeadsBack t p arcs → LeadsBack u p arcs
   leads_back_still t u stays [] p (d, s, none) = let f = stays p d s in (f.0, f.1, f.3 ∙ none)
   leads_back_still t u stays (k ∷ arcs) p (d, s, q, from, rest) =

@@ -9,7 +9,8 @@ use Rattle.label_core.specs.Tables.{Cells, entries_of, StandsAt}
 use Rattle.label_core.specs.Points.{LinksOver, IsSound}
 use Rattle.label_core.specs.Puts.{set_at, with_turn}
 use Rattle.label_core.proofs.Lookup.{same_or_apart, same_entry, set_here, set_else, set_back}
-use Rattle.label_core.proofs.Stays.{Stays, home_still, origins_still, labels_still}
+use Rattle.label_core.specs.Points.{Stays}
+use Rattle.label_core.proofs.Stays.{home_still, origins_still, labels_still}
 
 module _ {L : Type 0} (t : Cells L) (p : Place) (e : Entry L) (turn : Turn) (stands : StandsAt t p e) where
   abbrev pub turned : Cells L

@@ -4,3 +4,8 @@ pub mod Points
 pub mod Puts
 pub mod Closed
 pub mod Fates
+pub mod Passes
+pub mod Steps
+pub mod Rule
+pub mod Runs
+pub mod Plays

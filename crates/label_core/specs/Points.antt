@@ -13,6 +13,11 @@ module _ {L : Type 0} where
   LinksOver t p [] = (e : Entry L) × StandsAt t p e × IsKept e
   LinksOver t p (q ∷ path) = (e : Entry L) × StandsAt t p e × (e.gone ≡ Some q) × LinksOver t q path
 
+  -- each entry of t stands in u too, with its label and its origin
+  abbrev pub Stays : Cells L → Cells L → Type 0
+  Stays t u = (p : Place) (d : Entry L) → StandsAt t p d
+      → (e : Entry L) × StandsAt u p e × (e.label ≡ d.label) × (e.origin ≡ d.origin)
+
   module _ (r : Rules L) where
     -- The root stands, and each other entry's label is its parent's over the origin's arc
     pub record HasLabels (t : Cells L) : Type 0 where

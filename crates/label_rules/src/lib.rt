@@ -10,6 +10,7 @@ mod label;
 mod leasts;
 mod memories;
 mod spaces;
+mod table;
 mod tables;
 mod walks;
 
@@ -20,5 +21,6 @@ pub use label::Label;
 pub use leasts::{arcs_above_are_unused, arcs_have_joins, leasts_are_at_most, tables_cover};
 pub use memories::memories_meet;
 pub use spaces::{labels_are_lawful, levels_rise, tests_are_exact};
+pub use table::{Form, ProofTable};
 pub use tables::{covers_have_labels, half_pairs_represent};
 pub use walks::{admitted_walks_have_labels, elementary_walks_are_admitted};

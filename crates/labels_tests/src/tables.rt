@@ -154,8 +154,8 @@ fn links(rt: HostRuntime) -> Result<(), Fail> {
     let table = closed(rt.alloc(), &Ladder, 5)?;
     for (name, at, label, gone) in [
         ("the root, in a cell of its own", place(0, 0), 8, None),
-        ("5 is gone by 3", place(1, 0), 5, Some(place(1, 1))),
-        ("3 is gone by 1", place(1, 1), 3, Some(place(1, 2))),
+        ("5 is dominated by 3", place(1, 0), 5, Some(place(1, 1))),
+        ("3 is dominated by 1", place(1, 1), 3, Some(place(1, 2))),
         ("1 is kept", place(1, 2), 1, None),
         ("0, in a cell of its own", place(2, 0), 0, None),
     ] {

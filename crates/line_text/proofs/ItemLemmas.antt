@@ -1,5 +1,5 @@
 -- Things wanted one after the other: what is left of them as a loop goes on.
-use Rattle.std.proofs.Common.{◌≡◌, ℕ, zero, suc, ◌≤◌, ◌<◌, List, [], ◌∷◌, ◌++◌, length, refl, ap, sym, ◌∙◌, append_assoc, append-nil, Bool, true, false, not, arith, Result, Ok, Err}
+use Rattle.std.proofs.Common.{◌≡◌, ℕ, zero, suc, ◌≤◌, ◌<◌, List, [], ◌∷◌, ◌++◌, length, refl, ap, subst, sym, ◌∙◌, append_assoc, append-nil, Bool, true, false, not, arith, Result, Ok, Err}
 use Rattle.line_text.specs.declared.fault.Kind.{Kind}
 use Rattle.line_text.specs.declared.fault.LineFault.{LineFault}
 use Rattle.line_text.specs.declared.fault.LineFault.TheVariants.{Fault, Memory}
@@ -92,3 +92,22 @@ each_left-fault wanted whole front k places words kind left read = sym (rw read 
 
 pub each_left-end : {A : Type 0} (wanted : ℕ → Wants A) (whole : Result (List A × Words) Kind) (front : List A) (words : Words) → EachLeft wanted whole front [] words → whole ≡ Ok (front, words)
 each_left-end wanted whole front words left = sym (rw append-nil at left.same)
+
+-- what is read is seen as part of more
+pub gives_more : {X Y Z : Type 0} (lift : Y → Z) (view : X → Y × Words) (result : Result X LineFault) (r : Result (Y × Words) Kind) → Gives view result r → Gives (λ x. (lift (view x).0, (view x).1)) result (and_then r (λ y. give (lift y)))
+gives_more lift view (Ok x) r h = ap (λ s. and_then s (λ y. give (lift y))) h
+gives_more lift view (Err Memory) r h = tt
+gives_more lift view (Err (Fault kind)) r h = ap (λ s. and_then s (λ y. give (lift y))) h
+
+pub given_twice : {A B C : Type 0} (r : Result (A × Words) Kind) (f : A → B) (g : B → C) → and_then (and_then r (λ x. give (f x))) (λ y. give (g y)) ≡ and_then r (λ x. give (g (f x)))
+given_twice (Ok x) f g = refl
+given_twice (Err kind) f g = refl
+
+-- one part is told by the next, in two ways
+pub gives_twice : {X A B C D : Type 0} (view : X → B × Words) (result : Result X LineFault) (r : Result (A × Words) Kind) (f : A → B) (lift : B → D) (g : A → C) (put : C → D) → ((a : A) → lift (f a) ≡ put (g a)) → Gives view result (and_then r (λ a. give (f a))) → Gives (λ x. (lift (view x).0, (view x).1)) result (and_then (and_then r (λ a. give (g a))) (λ c. give (put c)))
+gives_twice {A = A} view result r f lift g put same h =
+    subst (Gives (λ x. (lift (view x).0, (view x).1)) result) (given_twice r f lift ∙ (alike r ∙ sym (given_twice r g put))) (gives_more lift view result (and_then r (λ a. give (f a))) h)
+  where
+    alike : (r : Result (A × Words) Kind) → and_then r (λ a. give (lift (f a))) ≡ and_then r (λ a. give (put (g a)))
+    alike (Ok x) = ap (λ d. Ok (d, x.1)) (same x.0)
+    alike (Err kind) = refl

@@ -7,13 +7,9 @@ use Rattle.std.proofs.lemmas.List.Elements.{All-nil, All-cons, All-append, All-h
 use Rattle.line_text.specs.declared.fault.Kind.{Kind}
 use Rattle.line_text.specs.Words.{Words, Wants, and_then, for_each, at_most_until, until, to_the_end}
 use Rattle.line_text.specs.Spelling.{in_printed_form}
+pub use Rattle.line_text.specs.Items.{EachAfter, AllAt}
 use Rattle.line_text.proofs.PrintedWordLemmas.{IsPrinted}
 use Rattle.line_text.proofs.Judgement.{Reads, Spent, Any, Anything, AtEnd, parted, no_items, given, same_as, settled, two}
-
--- a condition of each thing, after the things before it
-abbrev pub EachAfter : {A : Type 0} → (List A → A → Type 0) → List A → List A → Type 0
-EachAfter P before [] = Unit {0}
-EachAfter P before (x ∷ xs) = P before x × EachAfter P (before ++ x ∷ []) xs
 
 -- a condition that says nothing of the things before
 pub each_of_all : {A : Type 0} (P : A → Type 0) (before xs : List A) → All P xs → EachAfter (λ _. P) before xs
@@ -151,12 +147,6 @@ abbrev pub words_at : {A : Type 0} → (ℕ → A → Words) → List ℕ → Li
 words_at form [] xs = []
 words_at form (k ∷ ks) [] = []
 words_at form (k ∷ ks) (x ∷ xs) = form k x ++ words_at form ks xs
-
-abbrev pub AllAt : {A : Type 0} → (ℕ → A → Type 0) → List ℕ → List A → Type 0
-AllAt P [] [] = Unit {0}
-AllAt P (k ∷ ks) (x ∷ xs) = P k x × AllAt P ks xs
-AllAt P [] (x ∷ xs) = ⊥
-AllAt P (k ∷ ks) [] = ⊥
 
 pub for_each-reads : {A : Type 0} {form : ℕ → A → Words} {P : ℕ → A → Type 0} (wanted : ℕ → Wants A) → ((k : ℕ) → Reads (wanted k) Any (form k) (P k) Anything) → (ks : List ℕ) → Reads (for_each wanted ks) Any (words_at form ks) (AllAt P ks) Anything
 for_each-reads {A} {form} {P} wanted judged [] =

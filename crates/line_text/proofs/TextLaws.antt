@@ -97,7 +97,7 @@ abbrev wordy : List (List ℕ) → List Words
 wordy lines = filter are_some_words (map words_of lines)
 
 -- A line that is read.
-else_arm : {A : Type 0} (b : Bool) (r : Result A Kind) (kind : Kind) (e : A) → (if b then Err kind else r) ≡ Ok e → (b ≡ false) × (r ≡ Ok e)
+pub else_arm : {A : Type 0} (b : Bool) (r : Result A Kind) (kind : Kind) (e : A) → (if b then Err kind else r) ≡ Ok e → (b ≡ false) × (r ≡ Ok e)
 else_arm true r kind e h = cc
 else_arm false r kind e h = (refl, h)
 
@@ -117,7 +117,7 @@ pub record LineTold {D I : Type 0} (g : Grammar D I) (Line : I → Words → Typ
   pub may : May d item
   pub next : g.put d n item ≡ e
 
-line_told : {D I : Type 0} {g : Grammar D I} {Fits : D → Type 0} {Line : I → Words → Type 0} {form : I → Words} {May : D → I → Type 0} → IsGrammar g Fits Line form May → (d e : D) (n : ℕ) (w : List ℕ) (words : Words) → Fits d → words_read (reading_of g) d n (w ∷ words) ≡ Ok e → LineTold g Line May d e n (w ∷ words)
+pub line_told : {D I : Type 0} {g : Grammar D I} {Fits : D → Type 0} {Line : I → Words → Type 0} {form : I → Words} {May : D → I → Type 0} → IsGrammar g Fits Line form May → (d e : D) (n : ℕ) (w : List ℕ) (words : Words) → Fits d → words_read (reading_of g) d n (w ∷ words) ≡ Ok e → LineTold g Line May d e n (w ∷ words)
 line_told {D} {I} {g} {Fits} {Line} {form} {May} judged d e n w words fits h =
     let arm = else_arm (g.is_ended d) (all_taken ((g.item d >>= (λ i. give (g.put d n i))) (w ∷ words))) fault.AfterEnd e h in
     by_item (g.item d (w ∷ words)) refl arm.0 (all_of _ e arm.1)
@@ -137,7 +137,7 @@ line_taken {g = g} judged d n i w words going may e =
     ∙ ap (λ r. all_taken (and_then r (λ i. give (g.put d n i)))) (judged.taken d i (w ∷ words) going may e)
 
 -- Lines that are read.
-next_of : {A B : Type 0} (n : ℕ) (r : Result A Kind) (next : A → Result B TextFault) (e : B) → go_on (at_line n r) next ≡ Ok e → (d : A) × (r ≡ Ok d) × (next d ≡ Ok e)
+pub next_of : {A B : Type 0} (n : ℕ) (r : Result A Kind) (next : A → Result B TextFault) (e : B) → go_on (at_line n r) next ≡ Ok e → (d : A) × (r ≡ Ok d) × (next d ≡ Ok e)
 next_of n (Ok d) next e h = (d, refl, h)
 next_of n (Err kind) next e h = cc
 
@@ -215,7 +215,7 @@ pub record SpellsBy {I V : Type 0} (Line : I → Words → Type 0) (Says : V →
   pub says : Says v items
 
 -- what is read is spelled
-after_lines : {D I : Type 0} (g : Grammar D I) (text : List ℕ) (e : D) (r : Result D TextFault) → go_on r (end_wanted (reading_of g) text) ≡ Ok e → (r ≡ Ok e) × (g.is_ended e ≡ true)
+pub after_lines : {D I : Type 0} (g : Grammar D I) (text : List ℕ) (e : D) (r : Result D TextFault) → go_on r (end_wanted (reading_of g) text) ≡ Ok e → (r ≡ Ok e) × (g.is_ended e ≡ true)
 after_lines g text e (Err f) h = cc
 after_lines {D} g text e (Ok d) h = by_end (g.is_ended d) refl h
   where

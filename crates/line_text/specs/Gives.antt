@@ -8,7 +8,7 @@ use Rattle.line_text.specs.declared.fault.ReadError.TheVariants as read
 use Rattle.line_text.specs.declared.fault.LineFault.{LineFault}
 use Rattle.line_text.specs.declared.fault.LineFault.TheVariants.{Fault, Memory}
 
--- a fault is that of the reading; want of memory says nothing
+-- a fault is that of the reading; running out of memory says nothing
 abbrev pub Fails : {Y : Type 0} → LineFault → Result Y Kind → Type 0
 Fails Memory reading = Unit {0}
 Fails (Fault kind) reading = reading ≡ Err kind

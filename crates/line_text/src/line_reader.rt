@@ -13,8 +13,8 @@ use vrp_lex::{Line, bad_byte, next_line};
 pub trait LineReader: Drop + Sized {
     type Told;
 
-    /// What each line says.
-    ghost reading: { Reading Self.Told };
+    /// What each line says. No line changes it.
+    ghost reading: { Self → Reading Self.Told };
 
     /// What was said so far.
     ghost told: { Self → Self.Told };
@@ -22,14 +22,9 @@ pub trait LineReader: Drop + Sized {
     /// What holds of the sums that are kept beside it.
     ghost sound: { Self → Type 0 };
 
-    /// Before the first line.
-    fn new(alloc: Global) -> Self
-        ensures empty { told result ≡ reading.empty }
-        ensures sound { sound result };
-
     /// Whether the end is read.
     fn is_ended(&self) -> bool
-        ensures { result ≡ reading.is_ended (told self.now) };
+        ensures { result ≡ (reading self.now).is_ended (told self.now) };
 
     /// The words of a line before the end; the bytes behind those that were taken.
     fn take_line<'a>(
@@ -40,7 +35,8 @@ pub trait LineReader: Drop + Sized {
     ) -> Result<&'a [u8], LineFault>
         requires { sound self.old }
         ensures gives { Gives (λ rest. (told self.new, words_of rest.now)) result
-            (reading.line (told self.old) number (words_of words.now)) }
+            ((reading self.old).line (told self.old) number (words_of words.now)) }
+        ensures same { OnOk result (reading self.new ≡ reading self.old) }
         ensures sound { OnOk result (sound self.new) };
 }
 
@@ -60,7 +56,8 @@ fn take_words<R: LineReader>(
 ) -> Result<(), LineFault>
     requires { R.sound reader.old }
     ensures gives { Gives (λ _. R.told reader.new) result
-        (words_read R.reading (R.told reader.old) number (words_of words.now)) }
+        (words_read (R.reading reader.old) (R.told reader.old) number (words_of words.now)) }
+    ensures same { OnOk result (R.reading reader.new ≡ R.reading reader.old) }
     ensures sound { OnOk result (R.sound reader.new) }
 {
     if !has_word(words) {
@@ -81,7 +78,8 @@ fn take_line<R: LineReader>(
     requires line { IsInText text.now line.now }
     requires sound { R.sound reader.old }
     ensures gives { Gives (λ _. R.told reader.new) result
-        (line_read R.reading (R.told reader.old) line.now.number (bytes_of text.now line.now)) }
+        (line_read (R.reading reader.old) (R.told reader.old) line.now.number (bytes_of text.now line.now)) }
+    ensures same { OnOk result (R.reading reader.new ≡ R.reading reader.old) }
     ensures sound { OnOk result (R.sound reader.new) }
 {
     fault_if(Kind::Byte, bad_byte(text, line))?;
@@ -100,7 +98,8 @@ fn take_numbered<R: LineReader>(
     requires sound { R.sound reader.old }
     ensures gives { GivesText (λ _. R.told reader.new) result
         (at_line line.now.number
-        (line_read R.reading (R.told reader.old) line.now.number (bytes_of text.now line.now))) }
+        (line_read (R.reading reader.old) (R.told reader.old) line.now.number (bytes_of text.now line.now))) }
+    ensures same { OnOk result (R.reading reader.new ≡ R.reading reader.old) }
     ensures sound { OnOk result (R.sound reader.new) }
 {
     match take_line(reader, alloc, text, line) {
@@ -113,14 +112,17 @@ fn take_numbered<R: LineReader>(
     }
 }
 
-/// What all lines of a text say.
-fn read_lines<R: LineReader>(alloc: Global, text: &[u8]) -> Result<R, ReadError>
-    requires { length text.now < 2 ^ 32 - 1 }
+/// What all lines of a text say to a reader of which no line is read.
+fn read_lines<R: LineReader>(fresh: R, alloc: Global, text: &[u8]) -> Result<R, ReadError>
+    requires short { length text.now < 2 ^ 32 - 1 }
+    requires empty { R.told fresh ≡ (R.reading fresh).empty }
+    requires sound { R.sound fresh }
     ensures gives { GivesText R.told result
-        (lines_read R.reading R.reading.empty 1 (lines_of text.now)) }
+        (lines_read (R.reading fresh) (R.reading fresh).empty 1 (lines_of text.now)) }
+    ensures same { IfOk result (λ read. R.reading read ≡ R.reading fresh) }
     ensures sound { IfOk result R.sound }
 {
-    let mut reader = R::new(alloc);
+    let mut reader = fresh;
     let mut at = 0;
     let mut number = 1;
     while let Some(line) = next_line(text, at, number) {
@@ -131,15 +133,18 @@ fn read_lines<R: LineReader>(alloc: Global, text: &[u8]) -> Result<R, ReadError>
     Ok(reader)
 }
 
-/// What a text says, or its first error: that of the first faulty line; then the missing end.
+/// What a text says to a reader of which no line is read, or its first error: that of the first faulty line; then the
+/// missing end.
 ///
 /// Lines are read one after the other, each in one pass over its words.
-pub fn read_text<R: LineReader>(alloc: Global, text: &[u8]) -> Result<R, ReadError>
-    requires { length text.now < 2 ^ 32 - 1 }
-    ensures gives { GivesText R.told result (text_read R.reading text.now) }
+pub fn read_text<R: LineReader>(reader: R, alloc: Global, text: &[u8]) -> Result<R, ReadError>
+    requires short { length text.now < 2 ^ 32 - 1 }
+    requires empty { R.told reader ≡ (R.reading reader).empty }
+    requires sound { R.sound reader }
+    ensures gives { GivesText R.told result (text_read (R.reading reader) text.now) }
     ensures sound { IfOk result R.sound }
 {
-    let reader: R = read_lines(alloc, text)?;
+    let reader = read_lines(reader, alloc, text)?;
     if reader.is_ended() {
         return Ok(reader);
     }

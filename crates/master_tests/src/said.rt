@@ -1,11 +1,11 @@
-//! What is said of a linear program in a block: lines that begin with a word, with numbers behind it.
+//! What is said of a linear program in a block: lines that begin with a word, followed by numbers.
 
 use fixed_master::{Column, Entry, Side};
 use path_graph::List;
 use std::alloc::Global;
 use std::test::Fail;
 
-/// What stands behind a word at the beginning of a line, the first such.
+/// The rest of the first line that begins with this word.
 pub fn after<'a>(said: &'a str, word: &str) -> Option<&'a str> {
     for line in said.lines() {
         if let Some(rest) = line.strip_prefix(word) {

@@ -136,7 +136,7 @@ fn free_cycles(rt: HostRuntime) -> Result<(), Fail> {
                 continue;
             }
             Err(GraphFault::FreeCycle(found)) => found,
-            Err(GraphFault::Memory) => return Err(Fail::new("want of memory")),
+            Err(GraphFault::Memory) => return Err(Fail::new("out of memory")),
         };
         assert!(rt; is_rotation(found.as_slice(), cycle), "{name}");
     }

@@ -66,21 +66,32 @@ used_two W (suc (suc (suc zero))) x0 x1 x2 x3 x4 x5 few = refl
 used_two W (suc (suc (suc (suc zero)))) x0 x1 x2 x3 x4 x5 few = refl
 used_two W (suc (suc (suc (suc (suc n))))) x0 x1 x2 x3 x4 x5 few = absurd (omega arith)
 
-used_six : {A : Type 0} (W : A → Words) (mains seconds : ℕ) (x0 x1 x2 x3 x4 x5 : A) → 1 ≤ mains → mains ≤ 2 → seconds ≤ 4 → at_positions W mains seconds (x0 ∷ x1 ∷ x2 ∷ x3 ∷ x4 ∷ x5 ∷ []) ≡ at_used W mains seconds (x0 ∷ x1 ∷ x2 ∷ x3 ∷ x4 ∷ x5 ∷ [])
-used_six W zero seconds x0 x1 x2 x3 x4 x5 some most few = absurd (omega arith)
-used_six W (suc zero) seconds x0 x1 x2 x3 x4 x5 some most few = used_one W seconds x0 x1 x2 x3 x4 x5 few
-used_six W (suc (suc zero)) seconds x0 x1 x2 x3 x4 x5 some most few = used_two W seconds x0 x1 x2 x3 x4 x5 few
-used_six W (suc (suc (suc n))) seconds x0 x1 x2 x3 x4 x5 some most few = absurd (omega arith)
+used_none : {A : Type 0} (W : A → Words) (seconds : ℕ) (x0 x1 x2 x3 x4 x5 : A) → seconds ≤ 4 → at_positions W 0 seconds (x0 ∷ x1 ∷ x2 ∷ x3 ∷ x4 ∷ x5 ∷ []) ≡ at_used W 0 seconds (x0 ∷ x1 ∷ x2 ∷ x3 ∷ x4 ∷ x5 ∷ [])
+used_none W zero x0 x1 x2 x3 x4 x5 few = refl
+used_none W (suc zero) x0 x1 x2 x3 x4 x5 few = refl
+used_none W (suc (suc zero)) x0 x1 x2 x3 x4 x5 few = refl
+used_none W (suc (suc (suc zero))) x0 x1 x2 x3 x4 x5 few = refl
+used_none W (suc (suc (suc (suc zero)))) x0 x1 x2 x3 x4 x5 few = refl
+used_none W (suc (suc (suc (suc (suc n))))) x0 x1 x2 x3 x4 x5 few = absurd (omega arith)
+
+used_six : {A : Type 0} (W : A → Words) (mains seconds : ℕ) (x0 x1 x2 x3 x4 x5 : A) → mains ≤ 2 → seconds ≤ 4 → at_positions W mains seconds (x0 ∷ x1 ∷ x2 ∷ x3 ∷ x4 ∷ x5 ∷ []) ≡ at_used W mains seconds (x0 ∷ x1 ∷ x2 ∷ x3 ∷ x4 ∷ x5 ∷ [])
+used_six W zero seconds x0 x1 x2 x3 x4 x5 most few = used_none W seconds x0 x1 x2 x3 x4 x5 few
+used_six W (suc zero) seconds x0 x1 x2 x3 x4 x5 most few = used_one W seconds x0 x1 x2 x3 x4 x5 few
+used_six W (suc (suc zero)) seconds x0 x1 x2 x3 x4 x5 most few = used_two W seconds x0 x1 x2 x3 x4 x5 few
+used_six W (suc (suc (suc n))) seconds x0 x1 x2 x3 x4 x5 most few = absurd (omega arith)
+
+pub used_at : {A : Type 0} (W : A → Words) (ends : Ends) (xs : List A) → ends.mains ≤ 2 → ends.seconds ≤ 4 → length xs ≡ 6 → words_at (words_if W ends) positions xs ≡ flat_map W (used ends xs)
+used_at W ends (x0 ∷ x1 ∷ x2 ∷ x3 ∷ x4 ∷ x5 ∷ []) most few six = used_six W ends.mains ends.seconds x0 x1 x2 x3 x4 x5 most few
+used_at W ends [] most few six = absurd (omega (arith, six))
+used_at W ends (x0 ∷ []) most few six = absurd (omega (arith, six))
+used_at W ends (x0 ∷ x1 ∷ []) most few six = absurd (omega (arith, six))
+used_at W ends (x0 ∷ x1 ∷ x2 ∷ []) most few six = absurd (omega (arith, six))
+used_at W ends (x0 ∷ x1 ∷ x2 ∷ x3 ∷ []) most few six = absurd (omega (arith, six))
+used_at W ends (x0 ∷ x1 ∷ x2 ∷ x3 ∷ x4 ∷ []) most few six = absurd (omega (arith, six))
+used_at W ends (x0 ∷ x1 ∷ x2 ∷ x3 ∷ x4 ∷ x5 ∷ x6 ∷ xs) most few six = absurd (omega (arith, six))
 
 pub used_words : {A : Type 0} (W : A → Words) (ends : Ends) (count : ℕ) (xs : List A) → EndsFit ends count → length xs ≡ 6 → words_at (words_if W ends) positions xs ≡ flat_map W (used ends xs)
-used_words W ends count (x0 ∷ x1 ∷ x2 ∷ x3 ∷ x4 ∷ x5 ∷ []) fit six = used_six W ends.mains ends.seconds x0 x1 x2 x3 x4 x5 fit.some_main fit.mains fit.seconds
-used_words W ends count [] fit six = absurd (omega (arith, six))
-used_words W ends count (x0 ∷ []) fit six = absurd (omega (arith, six))
-used_words W ends count (x0 ∷ x1 ∷ []) fit six = absurd (omega (arith, six))
-used_words W ends count (x0 ∷ x1 ∷ x2 ∷ []) fit six = absurd (omega (arith, six))
-used_words W ends count (x0 ∷ x1 ∷ x2 ∷ x3 ∷ []) fit six = absurd (omega (arith, six))
-used_words W ends count (x0 ∷ x1 ∷ x2 ∷ x3 ∷ x4 ∷ []) fit six = absurd (omega (arith, six))
-used_words W ends count (x0 ∷ x1 ∷ x2 ∷ x3 ∷ x4 ∷ x5 ∷ x6 ∷ xs) fit six = absurd (omega (arith, six))
+used_words W ends count xs fit six = used_at W ends xs fit.mains fit.seconds six
 
 pub vertex_wanted-spends : (sets count : ℕ) (s : Section) → sets ≤ 512 → EndsFit s.ends count → Spends (vertex_wanted sets s) (λ v ws. codes "vertex" ∷ ws ≡ vertex_words s.ends v)
 vertex_wanted-spends sets count s few fit =

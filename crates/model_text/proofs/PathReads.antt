@@ -19,10 +19,10 @@ use Rattle.model_text.specs.PathText.{PathFits}
 use Rattle.model_text.specs.PathFault.{name_wanted, arcs_wanted, path_wanted, PathItem, Path, End, path_rule, end_rule, path_grammar}
 
 -- the number of a graph or an arc
-abbrev IsName32 : ℕ → Type 0
+abbrev pub IsName32 : ℕ → Type 0
 IsName32 n = n ≤ 4294967295
 
-name-reads : Reads name_wanted Any (λ n. decimal n ∷ []) IsName32 Anything
+pub name-reads : Reads name_wanted Any (λ n. decimal n ∷ []) IsName32 Anything
 name-reads = same_as (natural_in-reads 0 4294967295 refl) (λ n k h. (refl, h.1)) (λ n k h. (omega arith, h))
 
 -- the arcs
@@ -34,7 +34,7 @@ not_none : (arcs : List ℕ) → arcs ≢ [] → is_none arcs ≡ false
 not_none [] some = absurd (some refl)
 not_none (a ∷ arcs) some = refl
 
-arcs-reads : Reads arcs_wanted Any (map decimal) (λ arcs. (arcs ≢ []) × All IsName32 arcs) AtEnd
+pub arcs-reads : Reads arcs_wanted Any (map decimal) (λ arcs. (arcs ≢ []) × All IsName32 arcs) AtEnd
 arcs-reads =
     same_as
     (next_before (λ arcs. arcs) (λ arcs words left h e end. still_end words left e end) (to_the_end-reads (λ _. name_wanted) (λ n. omega arith) (λ _. name-reads)) (λ arcs a.
@@ -47,10 +47,10 @@ arcs-reads =
 abbrev pub HasRoom : Plan → Taken → Type 0
 HasRoom plan t = paths_of plan t.graph + t.count ≤ 4096
 
-abbrev numbers_of : Taken → Words
+abbrev pub numbers_of : Taken → Words
 numbers_of t = decimal t.graph ∷ decimal t.count ∷ map decimal t.arcs
 
-path-reads : (plan : Plan) → Reads (path_wanted plan) Any numbers_of (λ t. PathFits t × HasRoom plan t) AtEnd
+pub path-reads : (plan : Plan) → Reads (path_wanted plan) Any numbers_of (λ t. PathFits t × HasRoom plan t) AtEnd
 path-reads plan =
     same_as
     (next (λ t. t.graph) name-reads (λ graph g.

@@ -58,14 +58,14 @@ says : (items : List PathItem) (e : PlanDraft) → Runs path_grammar May path_gr
 says items e runs ended = let said = runs_said steps items e runs in (rw ended at said.0, said.1)
 
 -- the lines of a plan are read one after the other
-room_for : (before : List Taken) (t : Taken) (after : List Taken) → AreFew (plan_with (before ++ t ∷ after)) → HasRoom (plan_with before) t
+pub room_for : (before : List Taken) (t : Taken) (after : List Taken) → AreFew (plan_with (before ++ t ∷ after)) → HasRoom (plan_with before) t
 room_for before t after few =
     let all : paths_of (plan_with ((before ++ t ∷ []) ++ after)) t.graph ≤ 4096 = subst (λ ts. paths_of (plan_with ts) t.graph ≤ 4096) (sym (append_assoc before (t ∷ []) after)) (few t.graph) in
     let split = sum_by-append (λ (u : Taken). u.count * is_of t.graph u.graph u.arcs) (before ++ t ∷ []) after in
     let own = paths_of-same (plan_with before) t in
     omega (arith, all, split, own)
 
-All-at_seam : (front : List Taken) (t : Taken) (back : List Taken) → All PathFits (front ++ t ∷ back) → PathFits t
+pub All-at_seam : (front : List Taken) (t : Taken) (back : List Taken) → All PathFits (front ++ t ∷ back) → PathFits t
 All-at_seam [] t back all = All-head PathFits t back all
 All-at_seam (u ∷ front) t back all = All-at_seam front t back (All-tail PathFits u (front ++ t ∷ back) all)
 

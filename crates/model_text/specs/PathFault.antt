@@ -59,10 +59,14 @@ abbrev pub put : PlanDraft → PathItem → PlanDraft
 put d (Path path) = record d { plan = with_path d.plan path }
 put d End = record d { ended = true }
 
+-- before the first line
+abbrev pub empty_plan : PlanDraft
+empty_plan = record { ended = false; plan = plan_with [] }
+
 abbrev pub path_grammar : Grammar PlanDraft PathItem
 path_grammar =
     record {
-      empty = record { ended = false; plan = plan_with [] };
+      empty = empty_plan;
       is_ended = λ d. d.ended;
       item = by_first_word (path_rule ∷ end_rule ∷ []);
       put = λ d number item. put d item;
@@ -78,7 +82,7 @@ plan_read text = text_read path_reading text
 abbrev pub IsFirstPathFault : List ℕ → TextFault → Type 0
 IsFirstPathFault text fault = plan_read text ≡ Err fault
 
--- why a text is not read: want of memory, which says nothing, or its first fault, where it spells no plan
+-- why a text is not read: there was no memory, which says nothing, or its first fault, where it spells no plan
 abbrev pub IsPathRefusal : List ℕ → ReadError → Type 0
 IsPathRefusal text read.Memory = Unit {0}
 IsPathRefusal text (read.Text fault) = IsFirstPathFault text fault × SpellsNoPlan text

@@ -11,7 +11,7 @@ use Rattle.model_text.specs.Spelling.{SpellsNothing}
 abbrev pub IsRefusedFor : TextFault → List ℕ → Type 0
 IsRefusedFor fault text = IsFirstTextFault text fault × SpellsNothing text
 
--- the same for an error of a reader; want of memory says nothing
+-- the same for an error of a reader; running out of memory says nothing
 abbrev pub IsRefusal : List ℕ → ReadError → Type 0
 IsRefusal text read.Memory = Unit {0}
 IsRefusal text (read.Text fault) = IsRefusedFor fault text
@@ -20,7 +20,7 @@ IsRefusal text (read.Text fault) = IsRefusedFor fault text
 abbrev pub IsTold : Draft → Type 0
 IsTold d = (text : List ℕ) × (text_read text ≡ Ok d)
 
--- the parts that lines told are refused for a fault that is looked at last; want of memory says nothing
+-- the parts that lines told are refused for a fault that is looked at last; running out of memory says nothing
 abbrev pub IsLateRefusal : Draft → ReadError → Type 0
 IsLateRefusal d read.Memory = Unit {0}
 IsLateRefusal d (read.Text fault) = IsFaultOf (Ok d) fault

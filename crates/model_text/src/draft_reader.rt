@@ -14,21 +14,30 @@ pub struct DraftReader {
     coefs: Vec<u32>,
 }
 
-impl LineReader for DraftReader {
-    type Told = Draft;
+impl DraftReader {
+    ghost use Rattle.std.specs.Prelude.{◌≡◌};
+    ghost use Rattle.model_text.specs.Draft.{empty_draft};
 
-    ghost reading = { model_reading };
-
-    ghost told = { λ r. r.draft };
-
-    ghost sound = { λ r. IsSound r.draft r.coefs.items };
-
-    fn new(alloc: Global) -> DraftReader {
+    /// Before the first line.
+    pub fn new(alloc: Global) -> DraftReader
+        ensures draft { result.draft ≡ empty_draft }
+        ensures sound { IsSound result.draft result.coefs.items }
+    {
         DraftReader {
             draft: Draft::new(alloc),
             coefs: Vec::new(alloc),
         }
     }
+}
+
+impl LineReader for DraftReader {
+    type Told = Draft;
+
+    ghost reading = { λ _. model_reading };
+
+    ghost told = { λ r. r.draft };
+
+    ghost sound = { λ r. IsSound r.draft r.coefs.items };
 
     fn is_ended(&self) -> bool {
         matches!(self.draft.stage, Stage::Ended)

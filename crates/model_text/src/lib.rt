@@ -23,5 +23,6 @@ pub use line_text::{Kind, LineWriter, ReadError, TextFault};
 pub use model_print::print_model;
 pub use model_reader::read_model;
 pub use path_reader::read_plan;
+pub use path_words::{arcs_of, name_of, take_path};
 pub use plan_print::{print_path, print_plan};
 pub use printed_laws::printed_text_laws;

@@ -20,6 +20,6 @@ pub fn read_model(alloc: Global, bytes: &[u8]) -> Result<Model, ReadError>
     ensures only { IfOk result (λ model. (m : ModelParts) → Spells bytes.now m → m ≡ model) }
     ensures refused { IfErr result (IsRefusal bytes.now) }
 {
-    let reader: DraftReader = read_text(alloc, bytes)?;
+    let reader: DraftReader = read_text(DraftReader::new(alloc), alloc, bytes)?;
     model_of(alloc, reader.draft)
 }

@@ -1,7 +1,10 @@
 ghost use Rattle.std.specs.Prelude.{◌≡◌, ◌<◌, ◌≤◌, ◌-◌, ◌^◌, OnOk, IfOk, IfErr, length};
 ghost use Rattle.route_model.specs.declared.plan.Plan.{Plan};
 ghost use Rattle.model_text.specs.PathText.{SpellsPlan};
-ghost use Rattle.model_text.specs.PathFault.{path_reading, IsPathRefusal};
+ghost use Rattle.vrp_lex.specs.Text.{words_of};
+ghost use Rattle.line_text.specs.Gives.{Gives};
+ghost use Rattle.line_text.specs.Words.{and_then, give};
+ghost use Rattle.model_text.specs.PathFault.{empty_plan, path_rule, put, path_reading, IsPathRefusal};
 ghost use Rattle.model_text.specs.PathCounts.{AreCounts};
 
 use crate::path_words::take_path;
@@ -25,16 +28,27 @@ struct PlanReader {
     counts: BTreeMap<u32, u32>,
 }
 
-impl LineReader for PlanReader {
-    type Told = PlanDraft;
+/// `GRAPH COUNT ARC ..` of a path, after the paths of a draft.
+fn take_path_line<'a>(
+    alloc: Global,
+    draft: &mut PlanDraft,
+    counts: &mut BTreeMap<u32, u32>,
+    words: &'a [u8],
+) -> Result<&'a [u8], LineFault>
+    requires { AreCounts counts.old draft.old.plan }
+    ensures gives { Gives (λ rest. (draft.new, words_of rest.now)) result
+        (and_then (path_rule.further draft.old (words_of words.now)) (λ item. give (put draft.old item))) }
+    ensures counts { OnOk result (AreCounts counts.new draft.new.plan) }
+{
+    take_path(alloc, &mut draft.plan, counts, words)
+}
 
-    ghost reading = { path_reading };
-
-    ghost told = { λ r. r.draft };
-
-    ghost sound = { λ r. AreCounts r.counts r.draft.plan };
-
-    fn new(alloc: Global) -> PlanReader {
+impl PlanReader {
+    /// Before the first line.
+    fn new(alloc: Global) -> PlanReader
+        ensures draft { result.draft ≡ empty_plan }
+        ensures counts { AreCounts result.counts result.draft.plan }
+    {
         let draft = PlanDraft {
             ended: false,
             plan: Plan {
@@ -46,6 +60,16 @@ impl LineReader for PlanReader {
             counts: BTreeMap::new(alloc),
         }
     }
+}
+
+impl LineReader for PlanReader {
+    type Told = PlanDraft;
+
+    ghost reading = { λ _. path_reading };
+
+    ghost told = { λ r. r.draft };
+
+    ghost sound = { λ r. AreCounts r.counts r.draft.plan };
 
     fn is_ended(&self) -> bool {
         self.draft.ended
@@ -59,7 +83,7 @@ impl LineReader for PlanReader {
     ) -> Result<&'a [u8], LineFault> {
         let (first, words) = word(words)?;
         if first == b"path".as_slice() {
-            return take_path(alloc, &mut self.draft, &mut self.counts, words);
+            return take_path_line(alloc, &mut self.draft, &mut self.counts, words);
         }
         if first == b"end".as_slice() {
             self.draft.ended = true;
@@ -80,6 +104,6 @@ pub fn read_plan(alloc: Global, bytes: &[u8]) -> Result<Plan, ReadError>
     ensures only { IfOk result (λ plan. (other : Plan) → SpellsPlan bytes.now other → other ≡ plan) }
     ensures refused { IfErr result (IsPathRefusal bytes.now) }
 {
-    let reader: PlanReader = read_text(alloc, bytes)?;
+    let reader = read_text(PlanReader::new(alloc), alloc, bytes)?;
     Ok(reader.draft.plan)
 }

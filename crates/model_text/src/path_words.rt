@@ -4,14 +4,13 @@ ghost use Rattle.std.specs.Map.{count_at};
 ghost use Rattle.std.specs.Ordering.{nat_cmp};
 ghost use Rattle.vrp_lex.specs.Text.{words_of};
 ghost use Rattle.line_text.specs.Gives.{Gives, IsShorter};
-ghost use Rattle.model_text.specs.PathFault.{name_wanted, arcs_wanted, path_rule, put};
+ghost use Rattle.model_text.specs.PathFault.{name_wanted, arcs_wanted, path_wanted, with_path};
 ghost use Rattle.model_text.specs.PathCounts.{AreCounts};
 ghost use Rattle.line_text.specs.Words.{and_then, give};
 
-use crate::path_reader::PlanDraft;
 use line_text::{ItemReader, Kind, LineFault, fault_if, items, natural_in};
 use path_graph::{List, MAX_PATHS};
-use route_model::Taken;
+use route_model::{Plan, Taken};
 use std::alloc::Global;
 use std::collections::BTreeMap;
 
@@ -25,8 +24,8 @@ fn count_of(counts: &BTreeMap<u32, u32>, graph: u32) -> u32
     }
 }
 
-/// The number of a graph or an arc.
-fn name_of(words: &[u8]) -> Result<(u32, &[u8]), LineFault>
+/// The number of a graph or an arc, known or not.
+pub fn name_of(words: &[u8]) -> Result<(u32, &[u8]), LineFault>
     ensures gives { Gives (λ x. (x.0, words_of x.1.now)) result (name_wanted (words_of words.now)) }
     ensures shorter { IfOk result (λ x. IsShorter words.now x.1.now) }
 {
@@ -55,8 +54,8 @@ impl ItemReader for Arcs {
     }
 }
 
-/// `ARC ..` of a path, to the end of the line: one arc or more.
-fn arcs_of(alloc: Global, words: &[u8]) -> Result<(List<u32>, &[u8]), LineFault>
+/// `ARC ..`, to the end of the line: one arc or more.
+pub fn arcs_of(alloc: Global, words: &[u8]) -> Result<(List<u32>, &[u8]), LineFault>
     ensures { Gives (λ x. (x.0, words_of x.1.now)) result (arcs_wanted (words_of words.now)) }
 {
     let (arcs, rest) = items(&mut Arcs, alloc, words)?;
@@ -64,17 +63,17 @@ fn arcs_of(alloc: Global, words: &[u8]) -> Result<(List<u32>, &[u8]), LineFault>
     Ok((arcs, rest))
 }
 
-/// `GRAPH COUNT ARC ..` of a path. Appends the path to the plan.
+/// `GRAPH COUNT ARC ..` of a path. Appends the path to the plan, and its count to those of the graphs.
 pub fn take_path<'a>(
     alloc: Global,
-    draft: &mut PlanDraft,
+    plan: &mut Plan,
     counts: &mut BTreeMap<u32, u32>,
     words: &'a [u8],
 ) -> Result<&'a [u8], LineFault>
-    requires { AreCounts counts.old draft.old.plan }
-    ensures gives { Gives (λ rest. (draft.new, words_of rest.now)) result
-        (and_then (path_rule.further draft.old (words_of words.now)) (λ item. give (put draft.old item))) }
-    ensures counts { OnOk result (AreCounts counts.new draft.new.plan) }
+    requires { AreCounts counts.old plan.old }
+    ensures gives { Gives (λ rest. (plan.new, words_of rest.now)) result
+        (and_then (path_wanted plan.old (words_of words.now)) (λ path. give (with_path plan.old path))) }
+    ensures counts { OnOk result (AreCounts counts.new plan.new) }
 {
     let (graph, words) = name_of(words)?;
     let (count, words) = natural_in(words, 1, MAX_PATHS)?;
@@ -82,6 +81,6 @@ pub fn take_path<'a>(
     fault_if(Kind::TooMany, sum > MAX_PATHS)?;
     let (arcs, words) = arcs_of(alloc, words)?;
     counts.insert(graph, sum)?;
-    draft.plan.paths.push(Taken { graph, count, arcs })?;
+    plan.paths.push(Taken { graph, count, arcs })?;
     Ok(words)
 }

@@ -35,7 +35,7 @@ coef_near terms (suc n) j few =
     either true k s c h = let near = abs_within (unsigned_abs c) c (omega arith) in (omega (arith, ints, h.0, near.0), omega (arith, ints, h.1, near.1))
     either false k s c h = (omega (arith, ints, h.0), omega (arith, ints, h.1))
 
-row_near : (terms : List RowTerm) (j : ℕ) → IsWithin (row_coef j terms) (coef_in terms j)
+pub row_near : (terms : List RowTerm) (j : ℕ) → IsWithin (row_coef j terms) (coef_in terms j)
 row_near terms j = subst (λ (xs : List RowTerm). IsWithin (row_coef j xs) (coef_in terms j)) (take_all (length terms) terms (omega arith)) (coef_near terms (length terms) j (omega arith))
 
 -- what the rows take from a unit
@@ -68,7 +68,7 @@ unit_near m mult j fits mults below =
     (omega (arith, ints, own.0, part.1, most), omega (arith, ints, own.1, part.0, most))
 
 -- the units of the variables of an arc, of which there are at most 16
-sum_near : (f : ℕ → ℤ) (n : ℕ) (xs : List ℕ) → All (λ x. IsWithin n (f x)) xs → IsWithin (length xs * n) (sum_over f xs)
+pub sum_near : (f : ℕ → ℤ) (n : ℕ) (xs : List ℕ) → All (λ x. IsWithin n (f x)) xs → IsWithin (length xs * n) (sum_over f xs)
 sum_near f n [] each = (omega (arith, ints), omega (arith, ints))
 sum_near f n (x ∷ xs) each =
     let here = each 0 x (omega arith) in

@@ -45,12 +45,12 @@ counts_over {X} n a test (x ∷ xs) =
     ∙ ap (λ (z : ℤ). sum_below n (λ j. a j *ℤ pos (if test j x then 1 else 0)) +ℤ z) (counts_over n a test xs)))
 
 -- the variables of an arc, each of which it maps once
-ascends_rest : (v : ℕ) (vars : List ℕ) → Ascends (λ j. j) (v ∷ vars) → Ascends (λ j. j) vars
+pub ascends_rest : (v : ℕ) (vars : List ℕ) → Ascends (λ j. j) (v ∷ vars) → Ascends (λ j. j) vars
 ascends_rest v vars ascend k d below =
     let next : suc k + 1 ≡ suc (k + 1) = omega arith in
     subst (λ (i : ℕ). slice_index_or vars k d < slice_index_or (v ∷ vars) i d) next (ascend (suc k) d (omega arith))
 
-apart_from : (w v : ℕ) (vars : List ℕ) → w ≤ v → Ascends (λ j. j) (v ∷ vars) → list_any (λ i. i == w) vars ≡ false
+pub apart_from : (w v : ℕ) (vars : List ℕ) → w ≤ v → Ascends (λ j. j) (v ∷ vars) → list_any (λ i. i == w) vars ≡ false
 apart_from w v [] low ascend = refl
 apart_from w v (x ∷ vars) low ascend =
     let more : v < x = ascend 0 0 (omega arith) in
@@ -75,7 +75,7 @@ arc_maps m u g a fits inside below =
     let map_fits = maps.each a [] (omega (arith, maps.arcs)) in
     mapped_once (length m.vars) u (mapped_vars m.maps g a) map_fits.each map_fits.ascend
 
-uses_over : (m : ModelParts) (u : ℕ → ℤ) (g v w : ℕ) (arcs : List ℕ) → ModelFits m → g < length m.graphs → Leads (graph_in m.graphs g) v arcs w
+pub uses_over : (m : ModelParts) (u : ℕ → ℤ) (g v w : ℕ) (arcs : List ℕ) → ModelFits m → g < length m.graphs → Leads (graph_in m.graphs g) v arcs w
     → sum_below (length m.vars) (λ j. u j *ℤ pos (uses_in m.maps j g arcs)) ≡ sum_over (λ a. sum_over u (mapped_vars m.maps g a)) arcs
 uses_over m u g v w arcs fits inside leads = counts_over (length m.vars) u (λ j. is_mapped m.maps j g) arcs ∙ each v w arcs leads
   where
@@ -101,7 +101,7 @@ visits_over m mult g arcs declared = counts_over m.sets (int_at mult.sets) is_vi
     each (a ∷ xs) = λ i. visit_picks mult m.sets (visit_over graph a) (no_set_past graph.vertices m.sets (arc_at graph.arcs a).head declared) i +ℤ each xs i
 
 -- a row's part is the sum of its coefficients
-row_over : (m : ModelParts) (terms : List RowTerm) (g : ℕ) (arcs : List ℕ) → All (TermFits (length m.vars)) terms
+pub row_over : (m : ModelParts) (terms : List RowTerm) (g : ℕ) (arcs : List ℕ) → All (TermFits (length m.vars)) terms
     → row_along m terms g arcs ≡ sum_below (length m.vars) (λ j. coef_in terms j *ℤ pos (uses_in m.maps j g arcs))
 row_over m terms g arcs declared =
     let n : ℕ = length m.vars in

@@ -6,7 +6,7 @@ ghost use Rattle.route_model.specs.Fit.{MapFits};
 ghost use Rattle.path_graph.specs.Sums.{sum_over};
 
 use path_graph::{List, NoMemory};
-use route_model::wide::added;
+use route_model::wide::plus;
 use std::alloc::Global;
 
 /// The reduced cost of each arc of each graph: that of the units of the variables that it maps.
@@ -47,7 +47,7 @@ fn unit_sum(units: &[i128], vars: &[u32]) -> i128
 {
     let mut total = 0;
     for var in vars {
-        total = added(total, units[*var as usize]);
+        total = plus(total, units[*var as usize]);
     }
     total
 }

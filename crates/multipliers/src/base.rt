@@ -13,7 +13,7 @@ ghost use Rattle.multipliers.specs.Quantities.{cut_at};
 ghost use Rattle.multipliers.specs.Ranges.{IsNear};
 
 use rank1_cuts::{Cut, right_side};
-use route_model::wide::{added, product};
+use route_model::wide::{plus, product};
 use route_model::{Row, Span, term};
 
 /// The most cuts that have multipliers at once.
@@ -40,7 +40,7 @@ pub(crate) fn span_terms(mults: &[i64], spans: &[Span]) -> i128
 {
     let mut total = 0;
     for (k, span) in spans.iter().enumerate() {
-        total = added(total, span_term(mults[k], *span));
+        total = plus(total, span_term(mults[k], *span));
     }
     total
 }
@@ -54,7 +54,7 @@ pub(crate) fn set_terms(mults: &[i64]) -> i128
 {
     let mut total = 0;
     for mult in mults {
-        total = added(total, span_term(*mult, Span { low: 0, high: 1 }));
+        total = plus(total, span_term(*mult, Span { low: 0, high: 1 }));
     }
     total
 }
@@ -86,7 +86,7 @@ pub(crate) fn cut_terms(mults: &[u64], cuts: &[Cut]) -> i128
 {
     let mut total = 0;
     for (c, cut) in cuts.iter().enumerate() {
-        total = added(total, cut_term(mults[c], cut));
+        total = plus(total, cut_term(mults[c], cut));
     }
     total
 }
@@ -116,7 +116,7 @@ pub(crate) fn row_terms(mults: &[i64], rows: &[Row]) -> Result<i128, u32>
     let mut total = 0;
     for (i, row) in rows.iter().enumerate() {
         match row_term(mults[i], row) {
-            Some(term) => total = added(total, term),
+            Some(term) => total = plus(total, term),
             None => return Err(i as u32),
         }
     }

@@ -11,7 +11,7 @@ ghost use Rattle.multipliers.specs.Quantities.{scaled};
 ghost use Rattle.multipliers.specs.Ranges.{AreUnits, MultFits};
 
 use path_graph::{List, NoMemory};
-use route_model::wide::{lessened, product};
+use route_model::wide::{minus, product};
 use route_model::{Model, Mult, Row, RowTerm, Var};
 use std::alloc::Global;
 
@@ -48,7 +48,7 @@ fn own_cost(var: &Var, mult: i64) -> i128
     requires mult { IsWithin (2 ^ 48) mult }
     ensures { result ≡ scaled var.now.cost -ℤ mult }
 {
-    lessened(product(65_536, var.cost), i128::from(mult))
+    minus(product(65_536, var.cost), i128::from(mult))
 }
 
 /// Takes from the units of each variable what the multipliers of the rows are worth on them.
@@ -87,5 +87,5 @@ fn take_term(units: &mut [i128], mult: i64, term: &RowTerm)
     ensures { units.new ≡ slice_set units.old term.now.var (int_at units.old term.now.var -ℤ mult *ℤ term.now.coef) }
 {
     let var = term.var as usize;
-    units[var] = lessened(units[var], product(mult, term.coef));
+    units[var] = minus(units[var], product(mult, term.coef));
 }

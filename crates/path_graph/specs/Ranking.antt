@@ -129,7 +129,7 @@ pub record AreRanks (arcs : List GraphArc) (count : ℕ) (ranks : List ℕ) : Ty
   pub size : length ranks ≡ count
   pub each : (v : ℕ) → v < count → IsRank arcs v (slice_index ranks v)
 
--- a fault names a cycle of free arcs; want of memory says nothing
+-- a fault names a cycle of free arcs; running out of memory says nothing
 abbrev pub IsCycleFault : List GraphArc → GraphFault → Type 0
 IsCycleFault arcs (FreeCycle cycle) = IsFreeCycle arcs cycle
 IsCycleFault arcs Memory = Unit {0}

@@ -18,7 +18,8 @@ use Rattle.label_core.specs.Points.{IsSound}
 use Rattle.label_core.specs.Puts.{fresh, with_turn, set_at, beside, put_into, put, CoversAt, CoversNot, EachFits, MayPut}
 use Rattle.label_core.specs.Fates.{IsDone, HasFates, IsLegal, AreLegal}
 use Rattle.label_core.proofs.Lookup.{some_same, at_front, front_or_end, none_at_end, cell_there, same_or_apart, same_entry, set_here, set_back}
-use Rattle.label_core.proofs.Stays.{Stays, all_legal_still}
+use Rattle.label_core.specs.Points.{Stays}
+use Rattle.label_core.proofs.Stays.{all_legal_still}
 use Rattle.label_core.proofs.Turning.{turn_back, turn_keeps}
 use Rattle.label_core.proofs.Putting.{Became, still_kept, label_stays, origin_stays, put_forth, put_back, new_stands, cell_is_there, put_stays, put_keeps}
 use Rattle.plain_table.specs.Fillings.{Waits, IsChildless, IsInTurn, IsToExtend, IsNotToExtend, IsSteady, Fills, Extending, AtWall}

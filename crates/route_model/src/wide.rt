@@ -11,7 +11,7 @@ pub fn product(factor: i64, value: i64) -> i128
 }
 
 /// A sum that fits.
-pub fn added(total: i128, more: i128) -> i128
+pub fn plus(total: i128, more: i128) -> i128
     requires { FitsSigned w128 (total +ℤ more) }
     ensures { result ≡ total +ℤ more }
 {
@@ -19,7 +19,7 @@ pub fn added(total: i128, more: i128) -> i128
 }
 
 /// A difference that fits.
-pub fn lessened(total: i128, less: i128) -> i128
+pub fn minus(total: i128, less: i128) -> i128
     requires { FitsSigned w128 (total -ℤ less) }
     ensures { result ≡ total -ℤ less }
 {

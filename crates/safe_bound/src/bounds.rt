@@ -6,7 +6,7 @@ ghost use Rattle.safe_bound.specs.Bounds.{Closes, IsBound, IsUnder};
 ghost use Rattle.safe_bound.specs.Promise.{BoundHolds, IsBoundNear, LeastsFit};
 
 use crate::graphs::{first_impossible, term_sum};
-use route_model::wide::{added, lessened, product};
+use route_model::wide::{minus, plus, product};
 use route_model::{Boxes, Priced, SCALE, Span};
 
 /// The bound of a place, or the first graph that has no walk and must have a path.
@@ -42,7 +42,7 @@ fn bound_from(spans: &[Span], base: i128, leasts: &[Option<i128>]) -> Bound
 {
     match first_impossible(spans, leasts, spans.len()) {
         Some(g) => Bound::NoPaths(g),
-        None => Bound::Value(added(base, term_sum(spans, leasts, spans.len()))),
+        None => Bound::Value(plus(base, term_sum(spans, leasts, spans.len()))),
     }
 }
 
@@ -63,5 +63,5 @@ pub(crate) fn scaled_below(z: i64) -> i128
     ensures scaled { result ≡ scaled (z -ℤ pos 1) }
     ensures range { IsWithin (2 ^ 80) result }
 {
-    lessened(product(SCALE, z), i128::from(SCALE))
+    minus(product(SCALE, z), i128::from(SCALE))
 }

@@ -8,7 +8,7 @@ ghost use Rattle.safe_bound.specs.Bounds.{are_possible_but, graph_term as term_o
 ghost use Rattle.safe_bound.specs.Promise.{IsCountBox, IsLeastNear, LeastsFit};
 
 use route_model::Span;
-use route_model::wide::added;
+use route_model::wide::plus;
 
 /// The first graph, but one, that has no walk and must have a path.
 pub(crate) fn first_impossible(spans: &[Span], leasts: &[Option<i128>], but: usize) -> Option<u32>
@@ -60,7 +60,7 @@ pub(crate) fn term_sum(spans: &[Span], leasts: &[Option<i128>], but: usize) -> i
 {
     let mut total = 0;
     for (g, span) in spans.iter().enumerate() {
-        total = added(total, term_unless(g == but, leasts[g], *span));
+        total = plus(total, term_unless(g == but, leasts[g], *span));
     }
     total
 }

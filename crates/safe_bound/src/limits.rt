@@ -7,7 +7,7 @@ ghost use Rattle.safe_bound.specs.Promise.{IsCountBox, LeastsFit, LimitHolds};
 
 use crate::bounds::scaled_below;
 use crate::graphs::{are_possible, graph_term, term_sum};
-use route_model::wide::lessened;
+use route_model::wide::minus;
 use route_model::{Boxes, Priced, Span};
 
 /// The limit of a walk of a graph against z: a walk of a greater reduced cost is in no solution of the place that costs
@@ -89,5 +89,5 @@ fn less_all(number: i128, base: i128, beside: i128, own: i128) -> i128
     ensures less { result ≡ number -ℤ base -ℤ beside -ℤ own }
     ensures range { IsWithin (2 ^ 126) result }
 {
-    lessened(lessened(lessened(number, base), beside), own)
+    minus(minus(minus(number, base), beside), own)
 }

@@ -14,7 +14,7 @@ fn read(alloc: Global, text: &[u8]) -> Result<Result<Model, TextFault>, Fail> {
     match read_model(alloc, text) {
         Ok(model) => Ok(Ok(model)),
         Err(ReadError::Text(fault)) => Ok(Err(fault)),
-        Err(ReadError::Memory) => Err(Fail::new("want of memory")),
+        Err(ReadError::Memory) => Err(Fail::new("out of memory")),
     }
 }
 

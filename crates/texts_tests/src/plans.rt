@@ -130,7 +130,7 @@ fn read(alloc: Global, text: &[u8]) -> Result<Result<Plan, TextFault>, Fail>
     match read_plan(alloc, text) {
         Ok(plan) => Ok(Ok(plan)),
         Err(ReadError::Text(fault)) => Ok(Err(fault)),
-        Err(ReadError::Memory) => Err(Fail::new("want of memory")),
+        Err(ReadError::Memory) => Err(Fail::new("out of memory")),
     }
 }
 

@@ -1,5 +1,5 @@
 -- From a whole run to the status that is due.
-use Rattle.std.proofs.Common.{◌≡◌, ℕ, ℤ, ◌+◌, ◌≤◌, ◌<◌, ◌⊎◌, inl, inr, List, length, length-append, Option, Some, None, IfSome, arith, ap, subst}
+use Rattle.std.proofs.Common.{◌≡◌, ℕ, ℤ, ◌+◌, ◌≤◌, ◌<◌, ◌⊎◌, inl, inr, List, length, length-append, Option, Some, None, IfSome, arith, ap, subst, sym}
 use Rattle.vrp_io.specs.Counts.{Rose}
 use Rattle.vrp_io.specs.Bytes.{TookExactly}
 use Rattle.route_model.specs.declared.plan.Plan.{Plan}
@@ -11,11 +11,15 @@ use Rattle.model_text.specs.Spelling.{Spells}
 use Rattle.model_text.specs.Refusal.{IsRefusedFor}
 use Rattle.model_text.proofs.SpellsLawLemmas.{spells_one}
 use Rattle.model_text.proofs.PlanLaws.{spells_one_plan}
+use Rattle.certificate.specs.declared.cert.Cert.{Cert}
+use Rattle.certificate.specs.declared.cert.Goal.{Goal}
+use Rattle.cert_check.specs.declared.fault.CheckFault.{CheckFault}
+use Rattle.cert_check.specs.Verdicts.{IsAccepted}
 use Rattle.vrp_cli.specs.declared.limits.TheConstants.{MAX_INPUT}
 use Rattle.vrp_cli.specs.declared.command.Command.{Command}
-use Rattle.vrp_cli.specs.declared.command.Command.TheVariants.{Solve, Print, Eval}
-use Rattle.vrp_cli.specs.Commands.{Takes, model_part, path_part}
-use Rattle.vrp_cli.specs.Headline.{TellsLeast, SpellsInfeasible, TellsModel, SpellsSolution, ArePathsRefusedFor, IsPlanRefusedFor, Answers, optimal, infeasible, printed, fine, words_refused, model_refused, paths_refused, plan_refused, read_failed, no_memory, too_long, Runs, Stream}
+use Rattle.vrp_cli.specs.declared.command.Command.TheVariants.{Solve, Print, Eval, Check}
+use Rattle.vrp_cli.specs.Commands.{Takes, model_part, second_part}
+use Rattle.vrp_cli.specs.Headline.{TellsLeast, SpellsInfeasible, TellsModel, SpellsSolution, ArePathsRefusedFor, IsPlanRefusedFor, SpellsProved, IsNoCertificate, IsCertificateRefusedFor, Answers, optimal, infeasible, printed, fine, words_refused, model_refused, paths_refused, plan_refused, accepted, no_certificate, certificate_refused, read_failed, no_memory, too_long, Runs, Stream}
 use Rattle.vrp_cli.specs.Endings.{IsDueOn, IsDue}
 use Rattle.vrp_cli.proofs.RunLemmas.{on_input, of_run, one_command}
 
@@ -30,11 +34,11 @@ long_input command (Some input) (Some rest) end took is =
     )
 
 -- the model text spells a model, on which the status is due
-spelled_due : (command : Command) (end : ℕ) (input : List ℕ) (m : ModelParts) → length input ≤ MAX_INPUT → Spells (model_part command input) m → IsDueOn command m (path_part input) end → IsDue command end input
+spelled_due : (command : Command) (end : ℕ) (input : List ℕ) (m : ModelParts) → length input ≤ MAX_INPUT → Spells (model_part command input) m → IsDueOn command m (second_part input) end → IsDue command end input
 spelled_due command end input m few spelled due = (
   λ long. absurd (omega (arith, long, few)),
   λ short none. absurd (none m spelled),
-  λ n short other. subst (λ (x : ModelParts). IsDueOn command x (path_part input) end) (spells_one (model_part command input) m n spelled other) due,
+  λ n short other. subst (λ (x : ModelParts). IsDueOn command x (second_part input) end) (spells_one (model_part command input) m n spelled other) due,
 )
 
 optimal_due : (end : ℕ) (text input : List ℕ) → end ≡ 0 → length input ≤ MAX_INPUT → TellsLeast text input → IsDue Solve end input
@@ -52,7 +56,7 @@ fine_due : (end : ℕ) (cost : ℤ) (input : List ℕ) → end ≡ 0 → length 
 fine_due end cost input is few p =
     spelled_due Eval end input p.model few p.spelled (
       λ none. absurd (none p.plan p.planned),
-      λ plan planned unsolved. absurd (unsolved (subst (λ (x : Plan). IsSolution p.model x) (spells_one_plan (path_part input) p.plan plan p.planned planned) p.solves)),
+      λ plan planned unsolved. absurd (unsolved (subst (λ (x : Plan). IsSolution p.model x) (spells_one_plan (second_part input) p.plan plan p.planned planned) p.solves)),
       λ plan planned solves. is,
     )
 
@@ -69,7 +73,31 @@ plan_due end verdict input is few p =
     spelled_due Eval end input p.model few p.spelled (
       λ none. is,
       λ plan planned unsolved. is,
-      λ plan planned solves. absurd (p.unsolved (subst (λ (x : Plan). IsSolution p.model x) (spells_one_plan (path_part input) plan p.plan planned p.planned) solves)),
+      λ plan planned solves. absurd (p.unsolved (subst (λ (x : Plan). IsSolution p.model x) (spells_one_plan (second_part input) plan p.plan planned p.planned) solves)),
+    )
+
+accepted_due : (end : ℕ) (claim : Goal) (input : List ℕ) → end ≡ 0 → length input ≤ MAX_INPUT → SpellsProved claim input → IsDue Check end input
+accepted_due end claim input is few p =
+    spelled_due Check end input p.model few p.spelled (
+      λ none. absurd (none p.cert p.certified.spelled),
+      λ cert spelled unproved. absurd (unproved (subst (λ (x : Cert). IsAccepted p.model x) (sym (p.certified.only cert spelled)) p.accepted)),
+      λ cert spelled proved. is,
+    )
+
+no_certificate_due : (end : ℕ) (fault : TextFault) (input : List ℕ) → end ≡ 4 → length input ≤ MAX_INPUT → IsNoCertificate fault input → IsDue Check end input
+no_certificate_due end fault input is few p =
+    spelled_due Check end input p.model few p.spelled (
+      λ none. is,
+      λ cert spelled unproved. absurd (p.none cert spelled),
+      λ cert spelled proved. absurd (p.none cert spelled),
+    )
+
+certificate_due : (end : ℕ) (fault : CheckFault) (input : List ℕ) → end ≡ 4 → length input ≤ MAX_INPUT → IsCertificateRefusedFor fault input → IsDue Check end input
+certificate_due end fault input is few p =
+    spelled_due Check end input p.model few p.spelled (
+      λ none. is,
+      λ cert spelled unproved. is,
+      λ cert spelled proved. absurd (p.unproved (subst (λ (x : Cert). IsAccepted p.model x) (p.certified.only cert spelled) proved)),
     )
 
 refused_due : (command : Command) (end : ℕ) (fault : TextFault) (input : List ℕ) → end ≡ 3 → length input ≤ MAX_INPUT → IsRefusedFor fault (model_part command input) → IsDue command end input
@@ -96,6 +124,9 @@ due_of {words} {a} {b} {w} {v} {end} run command taken no_read no_write =
     from status text (model_refused named fault known whole) is = of_command named known (on_input (IsDue named end) whole (λ input few p. refused_due named end fault input is few p))
     from status text (paths_refused fault known whole) is = of_command Eval known (on_input (IsDue Eval end) whole (λ input few p. paths_due end fault input is few p))
     from status text (plan_refused verdict known whole) is = of_command Eval known (on_input (IsDue Eval end) whole (λ input few p. plan_due end verdict input is few p))
+    from status text (accepted claim known whole) is = of_command Check known (on_input (IsDue Check end) whole (λ input few p. accepted_due end claim input is few p))
+    from status text (no_certificate fault known whole) is = of_command Check known (on_input (IsDue Check end) whole (λ input few p. no_certificate_due end fault input is few p))
+    from status text (certificate_refused fault known whole) is = of_command Check known (on_input (IsDue Check end) whole (λ input few p. certificate_due end fault input is few p))
     from status text (read_failed known rose) is = absurd (no_read rose)
-    from status text (no_memory known took) is = inl is
-    from status text (too_long known took) is = inr (long_input command a.bytes b.bytes end took is)
+    from status text (no_memory known took kept) is = inl is
+    from status text (too_long known took kept) is = inr (long_input command a.bytes b.bytes end took is)

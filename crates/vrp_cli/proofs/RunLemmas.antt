@@ -4,7 +4,7 @@ use Rattle.std.specs.Io.KnownBytes.{Appends}
 use Rattle.vrp_io.specs.Counts.{Rose}
 use Rattle.vrp_cli.specs.declared.limits.TheConstants.{MAX_INPUT}
 use Rattle.vrp_cli.specs.declared.command.Command.{Command}
-use Rattle.vrp_cli.specs.declared.command.Command.TheVariants.{Solve, Print, Eval}
+use Rattle.vrp_cli.specs.declared.command.Command.TheVariants.{Solve, Print, Eval, Check}
 use Rattle.vrp_cli.specs.Commands.{word_of, Takes}
 use Rattle.vrp_cli.specs.Headline.{ReadWhole, Answers, Runs, Stream}
 
@@ -41,9 +41,16 @@ one_command words c d p q = same c d (ap (λ (ws : List (List ℕ)). get_or (get
     same Solve Solve e = refl
     same Solve Print e = absurd (omega (arith, e))
     same Solve Eval e = absurd (omega (arith, e))
+    same Solve Check e = absurd (omega (arith, e))
     same Print Solve e = absurd (omega (arith, e))
     same Print Print e = refl
     same Print Eval e = absurd (omega (arith, e))
+    same Print Check e = absurd (omega (arith, e))
     same Eval Solve e = absurd (omega (arith, e))
     same Eval Print e = absurd (omega (arith, e))
     same Eval Eval e = refl
+    same Eval Check e = absurd (omega (arith, e))
+    same Check Solve e = absurd (omega (arith, e))
+    same Check Print e = absurd (omega (arith, e))
+    same Check Eval e = absurd (omega (arith, e))
+    same Check Check e = refl

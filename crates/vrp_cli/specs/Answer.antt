@@ -11,23 +11,34 @@ use Rattle.model_text.specs.Spelling.{Spells}
 use Rattle.model_text.specs.Refusal.{IsRefusedFor}
 use Rattle.model_text.specs.PathText.{SpellsPlan, SpellsNoPlan}
 use Rattle.model_text.specs.PathFault.{IsFirstPathFault}
+use Rattle.proof_rules.specs.Validity.{Holds}
+use Rattle.certificate.specs.declared.cert.Cert.{Cert}
+use Rattle.certificate.specs.Spelling.{SpellsNoCert}
+use Rattle.certificate.specs.Reading.{IsFirstCertFault}
+use Rattle.cert_rules.specs.Meaning.{claim_of}
+use Rattle.cert_check.specs.declared.fault.CheckFault.{CheckFault}
+use Rattle.cert_check.specs.Verdicts.{IsAccepted, IsFirstFault}
 use Rattle.vrp_cli.specs.declared.answer.Answer.{Answer}
-use Rattle.vrp_cli.specs.declared.answer.Answer.TheVariants.{Optimal, Infeasible, Printed, Fine, RefusedWords, RefusedModel, RefusedPaths, RefusedPlan, FailedRead, OutOfMemory, TooLong}
+use Rattle.vrp_cli.specs.declared.answer.Answer.TheVariants.{Optimal, Infeasible, Printed, Fine, Accepted, RefusedWords, RefusedModel, RefusedPaths, RefusedPlan, NoCertificate, RefusedCertificate, FailedRead, OutOfMemory, TooLong}
 use Rattle.vrp_cli.specs.declared.command.Command.{Command}
-use Rattle.vrp_cli.specs.declared.command.Command.TheVariants.{Solve, Print, Eval}
-use Rattle.vrp_cli.specs.Commands.{model_part, path_part}
+use Rattle.vrp_cli.specs.declared.command.Command.TheVariants.{Solve, Print, Eval, Check}
+use Rattle.vrp_cli.specs.Commands.{model_part, second_part}
 use Rattle.vrp_cli.specs.Texts.{fine_text, refused_model_text, refused_paths_text, refused_plan_text}
-use Rattle.vrp_cli.specs.Headline.{TellsLeast, SpellsInfeasible, TellsModel}
+use Rattle.vrp_cli.specs.Texts.{accepted_text, no_certificate_text, refused_certificate_text}
+use Rattle.vrp_cli.specs.Headline.{TellsLeast, SpellsInfeasible, SpellsOnly, TellsModel}
 
 abbrev pub status_of : Answer → ℕ
 status_of (Optimal text) = 0
 status_of Infeasible = 1
 status_of (Printed text) = 0
 status_of (Fine text) = 0
+status_of (Accepted text) = 0
 status_of RefusedWords = 2
 status_of (RefusedModel text) = 3
 status_of (RefusedPaths text) = 4
 status_of (RefusedPlan text) = 4
+status_of (NoCertificate text) = 4
+status_of (RefusedCertificate text) = 4
 status_of FailedRead = 7
 status_of OutOfMemory = 9
 status_of TooLong = 10
@@ -37,10 +48,13 @@ text_of (Optimal text) = text
 text_of Infeasible = codes "infeasible\n"
 text_of (Printed text) = text
 text_of (Fine text) = text
+text_of (Accepted text) = text
 text_of RefusedWords = codes "refused words\n"
 text_of (RefusedModel text) = text
 text_of (RefusedPaths text) = text
 text_of (RefusedPlan text) = text
+text_of (NoCertificate text) = text
+text_of (RefusedCertificate text) = text
 text_of FailedRead = codes "fault read\n"
 text_of OutOfMemory = codes "fault memory\n"
 text_of TooLong = codes "refused input too long\n"
@@ -63,6 +77,19 @@ AnswersPaths m paths (RefusedPaths text) =
     (fault : TextFault) × IsFirstPathFault paths fault × SpellsNoPlan paths × (text ≡ refused_paths_text fault)
 AnswersPaths m paths answer = (plan : Plan) × SpellsPlan paths plan × AnswersPlan m plan answer
 
+-- an answer to a certificate
+abbrev pub AnswersClaim : ModelParts → Cert → Answer → Type 0
+AnswersClaim m cert (Accepted text) = IsAccepted m cert × Holds m (claim_of cert) × (text ≡ accepted_text cert.goal)
+AnswersClaim m cert (RefusedCertificate text) =
+    (fault : CheckFault) × IsFirstFault m cert fault × (¬ (IsAccepted m cert)) × (text ≡ refused_certificate_text fault)
+AnswersClaim m cert answer = ⊥
+
+-- an answer to the text of a certificate behind a model
+abbrev pub AnswersCertificate : ModelParts → List ℕ → Answer → Type 0
+AnswersCertificate m certificate (NoCertificate text) =
+    (fault : TextFault) × IsFirstCertFault m certificate fault × SpellsNoCert m certificate × (text ≡ no_certificate_text fault)
+AnswersCertificate m certificate answer = (cert : Cert) × SpellsOnly m certificate cert × AnswersClaim m cert answer
+
 -- an answer that a command has to an input that was read whole
 abbrev pub AnswersInput : Command → List ℕ → Answer → Type 0
 AnswersInput Solve input (Optimal text) = TellsLeast text input
@@ -74,4 +101,7 @@ AnswersInput Print input (RefusedModel text) = RefusesModel Print input text
 AnswersInput Print input answer = ⊥
 AnswersInput Eval input (RefusedModel text) = RefusesModel Eval input text
 AnswersInput Eval input answer =
-    (m : ModelParts) × Spells (model_part Eval input) m × AnswersPaths m (path_part input) answer
+    (m : ModelParts) × Spells (model_part Eval input) m × AnswersPaths m (second_part input) answer
+AnswersInput Check input (RefusedModel text) = RefusesModel Check input text
+AnswersInput Check input answer =
+    (m : ModelParts) × Spells (model_part Check input) m × AnswersCertificate m (second_part input) answer

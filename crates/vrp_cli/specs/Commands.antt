@@ -2,13 +2,14 @@
 use Rattle.std.specs.Prelude.{◌≡◌, ℕ, List, [], ◌∷◌, codes, take, drop}
 use Rattle.model_text.specs.ModelEnd.{model_end}
 use Rattle.vrp_cli.specs.declared.command.Command.{Command}
-use Rattle.vrp_cli.specs.declared.command.Command.TheVariants.{Solve, Print, Eval}
+use Rattle.vrp_cli.specs.declared.command.Command.TheVariants.{Solve, Print, Eval, Check}
 
 -- the word of a command
 abbrev pub word_of : Command → List ℕ
 word_of Solve = codes "solve"
 word_of Print = codes "print"
 word_of Eval = codes "eval"
+word_of Check = codes "check"
 
 -- the words are the one word of this command
 abbrev pub Takes : List (List ℕ) → Command → Type 0
@@ -18,12 +19,14 @@ Takes words command = words ≡ word_of command ∷ []
 abbrev pub AreTaken : List (List ℕ) → Type 0
 AreTaken words = (command : Command) × Takes words command
 
--- the model text of an input: all of it, but for `eval`, which reads one up to and with the first line that begins with `end`
+-- the model text of an input: all of it, but for `eval` and `check`, which read one up to and with the first line that begins
+-- with `end`
 abbrev pub model_part : Command → List ℕ → List ℕ
 model_part Solve input = input
 model_part Print input = input
 model_part Eval input = take (model_end input) input
+model_part Check input = take (model_end input) input
 
--- the path text of an input, which stands behind its model text
-abbrev pub path_part : List ℕ → List ℕ
-path_part input = drop (model_end input) input
+-- what stands behind the model text of an input: the path text of `eval`, or the text of the certificate of `check`
+abbrev pub second_part : List ℕ → List ℕ
+second_part input = drop (model_end input) input

@@ -9,12 +9,19 @@ use Rattle.line_text.specs.declared.fault.TextFault.{TextFault}
 use Rattle.model_text.specs.Spelling.{Spells, SpellsNothing}
 use Rattle.model_text.specs.Refusal.{IsRefusedFor}
 use Rattle.model_text.specs.PathText.{SpellsPlan, SpellsNoPlan}
+use Rattle.certificate.specs.declared.cert.Cert.{Cert}
+use Rattle.certificate.specs.declared.cert.Goal.{Goal}
+use Rattle.certificate.specs.Spelling.{SpellsCert, SpellsNoCert}
+use Rattle.cert_check.specs.declared.fault.CheckFault.{CheckFault}
+use Rattle.cert_check.specs.Verdicts.{IsAccepted}
 use Rattle.vrp_cli.specs.declared.command.Command.{Command}
-use Rattle.vrp_cli.specs.declared.command.Command.TheVariants.{Solve, Print, Eval}
+use Rattle.vrp_cli.specs.declared.command.Command.TheVariants.{Solve, Print, Eval, Check}
 use Rattle.vrp_cli.specs.declared.limits.TheConstants.{MAX_INPUT}
-use Rattle.vrp_cli.specs.Commands.{model_part, path_part}
+use Rattle.vrp_cli.specs.Commands.{model_part, second_part}
 use Rattle.vrp_cli.specs.Texts.{fine_text, refused_model_text, refused_paths_text, refused_plan_text}
+use Rattle.vrp_cli.specs.Texts.{accepted_text, no_certificate_text, refused_certificate_text}
 use Rattle.vrp_cli.specs.Headline.{TellsLeast, TellsModel, SpellsSolution, ArePathsRefusedFor, IsPlanRefusedFor}
+use Rattle.vrp_cli.specs.Headline.{SpellsProved, IsNoCertificate, IsCertificateRefusedFor}
 
 -- what was written is the cost and the tidy path lines of a least solution of the model that the input spells
 abbrev pub WroteLeast : Option (List ℕ) → Option (List ℕ) → List ℕ → Type 0
@@ -38,7 +45,18 @@ WrotePlanFault old new input =
     ((fault : TextFault) × ArePathsRefusedFor fault input × Appends old new (refused_paths_text fault))
     ⊎ ((verdict : Verdict) × IsPlanRefusedFor verdict input × Appends old new (refused_plan_text verdict))
 
--- the status that is due on a model and the path text behind it, which `eval` alone reads
+-- what was written is the claim of the certificate that the input spells behind its model, and the claim holds
+abbrev pub WroteClaim : Option (List ℕ) → Option (List ℕ) → List ℕ → Type 0
+WroteClaim old new input = (claim : Goal) × SpellsProved claim input × Appends old new (accepted_text claim)
+
+-- what was written is the first fault behind the model: of a text that spells no certificate, or of a certificate that is
+-- not accepted
+abbrev pub WroteCertificateFault : Option (List ℕ) → Option (List ℕ) → List ℕ → Type 0
+WroteCertificateFault old new input =
+    ((fault : TextFault) × IsNoCertificate fault input × Appends old new (no_certificate_text fault))
+    ⊎ ((fault : CheckFault) × IsCertificateRefusedFor fault input × Appends old new (refused_certificate_text fault))
+
+-- the status that is due on a model and the text behind it, which `eval` and `check` alone read
 abbrev pub IsDueOn : Command → ModelParts → List ℕ → ℕ → Type 0
 IsDueOn Solve m paths end =
     (HasNoSolution m → end ≡ 1)
@@ -48,10 +66,14 @@ IsDueOn Eval m paths end =
     (SpellsNoPlan paths → end ≡ 4)
     × ((plan : Plan) → SpellsPlan paths plan → ¬ (IsSolution m plan) → end ≡ 4)
     × ((plan : Plan) → SpellsPlan paths plan → IsSolution m plan → end ≡ 0)
+IsDueOn Check m text end =
+    (SpellsNoCert m text → end ≡ 4)
+    × ((cert : Cert) → SpellsCert m text cert → ¬ (IsAccepted m cert) → end ≡ 4)
+    × ((cert : Cert) → SpellsCert m text cert → IsAccepted m cert → end ≡ 0)
 
 -- the status that is due on an input: by its length, then by whether it spells a model, then by the command
 abbrev pub IsDue : Command → ℕ → List ℕ → Type 0
 IsDue command end input =
     (MAX_INPUT < length input → end ≡ 10)
     × (length input ≤ MAX_INPUT → SpellsNothing (model_part command input) → end ≡ 3)
-    × ((m : ModelParts) → length input ≤ MAX_INPUT → Spells (model_part command input) m → IsDueOn command m (path_part input) end)
+    × ((m : ModelParts) → length input ≤ MAX_INPUT → Spells (model_part command input) m → IsDueOn command m (second_part input) end)

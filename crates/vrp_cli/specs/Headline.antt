@@ -1,7 +1,7 @@
 -- How a run of the program ends, and what each ending says.
-use Rattle.std.specs.Prelude.{◌≡◌, ℕ, ◌+◌, ◌≤◌, ◌⊎◌, ℤ, List, length, codes, Option, IfSome}
+use Rattle.std.specs.Prelude.{◌≡◌, Bool, ℕ, ◌+◌, ◌≤◌, ◌⊎◌, ℤ, List, length, codes, Option, IfSome}
 use Rattle.std.specs.Io.KnownBytes.{IsAtEnd, Appends}
-use Rattle.vrp_io.specs.Counts.{Rose}
+use Rattle.vrp_io.specs.Counts.{Rose, Kept}
 use Rattle.vrp_io.specs.Bytes.{TookAtMost, TookExactly, AppendedPrefix}
 use Rattle.route_model.specs.declared.plan.Plan.{Plan}
 use Rattle.route_model.specs.declared.plan.Verdict.{Verdict}
@@ -16,11 +16,21 @@ use Rattle.model_text.specs.Spelling.{Spells}
 use Rattle.model_text.specs.Refusal.{IsRefusedFor}
 use Rattle.model_text.specs.PathText.{SpellsPlan, SpellsNoPlan}
 use Rattle.model_text.specs.PathFault.{IsFirstPathFault}
+use Rattle.proof_rules.specs.Validity.{Holds}
+use Rattle.certificate.specs.declared.cert.Cert.{Cert}
+use Rattle.certificate.specs.declared.cert.Goal.{Goal}
+use Rattle.certificate.specs.Spelling.{SpellsCert, SpellsNoCert}
+use Rattle.certificate.specs.Reading.{IsFirstCertFault}
+use Rattle.cert_rules.specs.Meaning.{claim_of}
+use Rattle.cert_check.specs.declared.fault.CheckFault.{CheckFault}
+use Rattle.cert_check.specs.Verdicts.{IsAccepted, IsFirstFault}
 use Rattle.vrp_cli.specs.declared.command.Command.{Command}
-use Rattle.vrp_cli.specs.declared.command.Command.TheVariants.{Solve, Print, Eval}
+use Rattle.vrp_cli.specs.declared.command.Command.TheVariants.{Solve, Print, Eval, Check}
 use Rattle.vrp_cli.specs.declared.limits.TheConstants.{MAX_INPUT}
-use Rattle.vrp_cli.specs.Commands.{Takes, AreTaken, model_part, path_part}
-use Rattle.vrp_cli.specs.Texts.{optimal_text, fine_text, refused_model_text, refused_paths_text, refused_plan_text}
+use Rattle.vrp_cli.specs.Commands.{Takes, AreTaken, model_part, second_part}
+use Rattle.vrp_cli.specs.Texts.{optimal_text, fine_text, refused_model_text}
+use Rattle.vrp_cli.specs.Texts.{refused_paths_text, refused_plan_text}
+use Rattle.vrp_cli.specs.Texts.{accepted_text, no_certificate_text, refused_certificate_text}
 
 -- a tidy plan that is a solution, of which none costs less, and its cost
 pub record IsLeastPlan (m : ModelParts) (cost : ℤ) (plan : Plan) : Type 0 where
@@ -28,7 +38,7 @@ pub record IsLeastPlan (m : ModelParts) (cost : ℤ) (plan : Plan) : Type 0 wher
   pub tidy : IsTidy plan
   pub costs : cost ≡ cost_of m plan
 
--- the input spells a model, and the text tells a tidy plan that is a solution of it, and its cost; none costs less
+-- the input spells a model, and the text tells the cost and the paths of a tidy solution; none costs less
 pub record TellsLeast (text input : List ℕ) : Type 0 where
   pub model : ModelParts
   pub spelled : Spells input model
@@ -54,7 +64,7 @@ pub record SpellsSolution (cost : ℤ) (input : List ℕ) : Type 0 where
   pub model : ModelParts
   pub spelled : Spells (model_part Eval input) model
   pub plan : Plan
-  pub planned : SpellsPlan (path_part input) plan
+  pub planned : SpellsPlan (second_part input) plan
   pub solves : IsSolution model plan
   pub costs : cost ≡ cost_of model plan
 
@@ -62,29 +72,68 @@ pub record SpellsSolution (cost : ℤ) (input : List ℕ) : Type 0 where
 pub record ArePathsRefusedFor (fault : TextFault) (input : List ℕ) : Type 0 where
   pub model : ModelParts
   pub spelled : Spells (model_part Eval input) model
-  pub first : IsFirstPathFault (path_part input) fault
-  pub none : SpellsNoPlan (path_part input)
+  pub first : IsFirstPathFault (second_part input) fault
+  pub none : SpellsNoPlan (second_part input)
 
 -- the input of `eval` spells a model, and behind it a plan that is no solution: this is its first fault
 pub record IsPlanRefusedFor (verdict : Verdict) (input : List ℕ) : Type 0 where
   pub model : ModelParts
   pub spelled : Spells (model_part Eval input) model
   pub plan : Plan
-  pub planned : SpellsPlan (path_part input) plan
+  pub planned : SpellsPlan (second_part input) plan
   pub unsolved : ¬ (IsSolution model plan)
   pub first : IsVerdict model plan verdict
 
--- a stream at a moment: the bytes that it has left, or holds, where it tells them, and its count of faults
+-- the text is one of this certificate, and of no other
+pub record SpellsOnly (m : ModelParts) (text : List ℕ) (cert : Cert) : Type 0 where
+  pub spelled : SpellsCert m text cert
+  pub only : (other : Cert) → SpellsCert m text other → other ≡ cert
+
+-- the input of `check` spells a model, and behind it a certificate with this claim that is accepted; and what it claims holds
+pub record SpellsProved (claim : Goal) (input : List ℕ) : Type 0 where
+  pub model : ModelParts
+  pub spelled : Spells (model_part Check input) model
+  pub cert : Cert
+  pub certified : SpellsOnly model (second_part input) cert
+  pub accepted : IsAccepted model cert
+  pub claimed : cert.goal ≡ claim
+  pub holds : Holds model (claim_of cert)
+
+-- the input of `check` spells a model, and behind it no certificate: this is the first fault there
+pub record IsNoCertificate (fault : TextFault) (input : List ℕ) : Type 0 where
+  pub model : ModelParts
+  pub spelled : Spells (model_part Check input) model
+  pub first : IsFirstCertFault model (second_part input) fault
+  pub none : SpellsNoCert model (second_part input)
+
+-- the input of `check` spells a model, and behind it a certificate that is not accepted: this is its first fault
+pub record IsCertificateRefusedFor (fault : CheckFault) (input : List ℕ) : Type 0 where
+  pub model : ModelParts
+  pub spelled : Spells (model_part Check input) model
+  pub cert : Cert
+  pub certified : SpellsOnly model (second_part input) cert
+  pub unproved : ¬ (IsAccepted model cert)
+  pub first : IsFirstFault model cert fault
+
+-- a stream at a moment: the bytes that it has left, or holds, where it tells them; its count of faults;
+-- whether it answers each fault that it counts
 pub record Stream : Type 0 where
   pub bytes : Option (List ℕ)
   pub faults : ℕ
+  pub answers_each : Bool
 
-abbrev pub stream : Option (List ℕ) → ℕ → Stream
-stream bytes faults = record { bytes = bytes; faults = faults }
+abbrev pub stream : Option (List ℕ) → ℕ → Bool → Stream
+stream bytes faults answers_each = record { bytes = bytes; faults = faults; answers_each = answers_each }
 
--- the input was read to its end; where the source tells it, it is no longer than one may be, and P holds of it
+-- no fault came, of a stream that answers each
+abbrev pub NoneCame : Stream → Stream → Type 0
+NoneCame before after = Kept before.answers_each before.faults after.faults
+
+-- the input was read to its end without a fault; where the source tells it, it is no longer than one may be,
+-- and P holds of it
 pub record ReadWhole (before after : Stream) (P : List ℕ → Type 0) : Type 0 where
   pub end : IsAtEnd after.bytes
+  pub kept : NoneCame before after
   pub input : IfSome before.bytes (λ input. (length input ≤ MAX_INPUT) × P input)
 
 -- an answer, as a status and a text, to words and to what was read of a source: one rule for each ending
@@ -106,22 +155,29 @@ pub data Answers (words : List (List ℕ)) (before after : Stream) : ℕ → Lis
       → Answers words before after 4 (refused_paths_text fault)
   plan_refused : (verdict : Verdict) → Takes words Eval → ReadWhole before after (IsPlanRefusedFor verdict)
       → Answers words before after 4 (refused_plan_text verdict)
+  accepted : (claim : Goal) → Takes words Check → ReadWhole before after (SpellsProved claim)
+      → Answers words before after 0 (accepted_text claim)
+  no_certificate : (fault : TextFault) → Takes words Check → ReadWhole before after (IsNoCertificate fault)
+      → Answers words before after 4 (no_certificate_text fault)
+  certificate_refused : (fault : CheckFault) → Takes words Check → ReadWhole before after (IsCertificateRefusedFor fault)
+      → Answers words before after 4 (refused_certificate_text fault)
   read_failed : AreTaken words → Rose before.faults after.faults
       → Answers words before after 7 (codes "fault read\n")
-  no_memory : AreTaken words → TookAtMost before.bytes after.bytes MAX_INPUT
+  no_memory : AreTaken words → TookAtMost before.bytes after.bytes MAX_INPUT → NoneCame before after
       → Answers words before after 9 (codes "fault memory\n")
-  too_long : AreTaken words → TookExactly before.bytes after.bytes (MAX_INPUT + 1)
+  too_long : AreTaken words → TookExactly before.bytes after.bytes (MAX_INPUT + 1) → NoneCame before after
       → Answers words before after 10 (codes "refused input too long\n")
 
--- the whole text was written, and the run ended with its status; or a write failed after a prefix of it
+-- the whole text was written without a fault, and the run ended with its status; or a write failed after
+-- a prefix of it
 abbrev pub Tells : Stream → Stream → ℕ → List ℕ → ℕ → Type 0
 Tells before after status text end =
-    ((end ≡ status) × Appends before.bytes after.bytes text)
+    ((end ≡ status) × Appends before.bytes after.bytes text × NoneCame before after)
     ⊎ ((end ≡ 8) × Rose before.faults after.faults × AppendedPrefix before.bytes after.bytes text)
 
 -- a run: an answer to the words and the source, and how it was told to the sink
-pub record Runs (words : List (List ℕ)) (source source_after sink sink_after : Stream) (end : ℕ) : Type 0 where
+pub record Runs (words : List (List ℕ)) (source source_new sink sink_new : Stream) (end : ℕ) : Type 0 where
   pub status : ℕ
   pub text : List ℕ
-  pub answers : Answers words source source_after status text
-  pub tells : Tells sink sink_after status text end
+  pub answers : Answers words source source_new status text
+  pub tells : Tells sink sink_new status text end

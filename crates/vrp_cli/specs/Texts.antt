@@ -6,6 +6,10 @@ use Rattle.route_model.specs.declared.plan.Plan.{Plan}
 use Rattle.route_model.specs.declared.plan.Verdict.{Verdict}
 use Rattle.route_model.specs.declared.plan.Verdict.TheVariants.{Fine, NotWalk, Count, Packing, VarBox, RowBox}
 use Rattle.line_text.specs.declared.fault.TextFault.{TextFault}
+use Rattle.certificate.specs.declared.cert.Goal.{Goal}
+use Rattle.certificate.specs.declared.cert.Goal.TheVariants as goal
+use Rattle.cert_check.specs.declared.fault.CheckFault.{CheckFault}
+use Rattle.cert_check.specs.Kinds.{check_name, check_number}
 use Rattle.line_text.specs.Faults.{kind_number, kind_name}
 use Rattle.line_text.specs.Spelling.{line}
 use Rattle.model_text.specs.PathText.{path_line}
@@ -34,6 +38,23 @@ refused_model_text fault = fault_text (codes "model") fault
 -- `refused paths LINE NUMBER KIND`
 abbrev pub refused_paths_text : TextFault → List ℕ
 refused_paths_text fault = fault_text (codes "paths") fault
+
+-- `refused certificate LINE NUMBER KIND`, of a text that is no certificate, or of a certificate that is not accepted
+abbrev pub no_certificate_text : TextFault → List ℕ
+no_certificate_text fault = fault_text (codes "certificate") fault
+
+abbrev pub refused_certificate_text : CheckFault → List ℕ
+refused_certificate_text fault =
+    line (codes "refused") (codes "certificate" ∷ decimal fault.line ∷ decimal (check_number fault.kind) ∷ check_name fault.kind ∷ [])
+
+-- a claim in words
+abbrev pub claim_words : Goal → List (List ℕ)
+claim_words (goal.Optimal cost) = codes "optimal" ∷ signed_decimal cost ∷ []
+claim_words goal.Infeasible = codes "infeasible" ∷ []
+
+-- `accepted`, then the claim
+abbrev pub accepted_text : Goal → List ℕ
+accepted_text claim = line (codes "accepted") (claim_words claim)
 
 -- the first fault of a plan, in two words; a plan that is fine has none
 abbrev pub plan_fault_words : Verdict → List (List ℕ)

@@ -15,6 +15,8 @@ pub(crate) enum Answer {
     Printed(List<u8>),
     /// A plan is a solution, by the text of its cost.
     Fine(LineWriter),
+    /// A certificate is accepted, by the text of its claim.
+    Accepted(LineWriter),
     /// The words name no command.
     RefusedWords,
     /// The model text is refused, by the text of its fault.
@@ -23,6 +25,10 @@ pub(crate) enum Answer {
     RefusedPaths(LineWriter),
     /// A plan is no solution, by the text of its fault.
     RefusedPlan(LineWriter),
+    /// A text is no certificate, by the text of its fault.
+    NoCertificate(LineWriter),
+    /// A certificate is not accepted, by the text of its fault.
+    RefusedCertificate(LineWriter),
     FailedRead,
     OutOfMemory,
     TooLong,
@@ -38,10 +44,13 @@ impl Answer {
             Answer::Infeasible => 1,
             Answer::Printed(_) => 0,
             Answer::Fine(_) => 0,
+            Answer::Accepted(_) => 0,
             Answer::RefusedWords => 2,
             Answer::RefusedModel(_) => 3,
             Answer::RefusedPaths(_) => 4,
             Answer::RefusedPlan(_) => 4,
+            Answer::NoCertificate(_) => 4,
+            Answer::RefusedCertificate(_) => 4,
             Answer::FailedRead => 7,
             Answer::OutOfMemory => 9,
             Answer::TooLong => 10,
@@ -57,10 +66,13 @@ impl Answer {
             Answer::Infeasible => b"infeasible\n",
             Answer::Printed(text) => text.as_slice(),
             Answer::Fine(text) => text.as_slice(),
+            Answer::Accepted(text) => text.as_slice(),
             Answer::RefusedWords => b"refused words\n",
             Answer::RefusedModel(text) => text.as_slice(),
             Answer::RefusedPaths(text) => text.as_slice(),
             Answer::RefusedPlan(text) => text.as_slice(),
+            Answer::NoCertificate(text) => text.as_slice(),
+            Answer::RefusedCertificate(text) => text.as_slice(),
             Answer::FailedRead => b"fault read\n",
             Answer::OutOfMemory => b"fault memory\n",
             Answer::TooLong => b"refused input too long\n",

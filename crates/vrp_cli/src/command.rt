@@ -11,6 +11,8 @@ pub enum Command {
     Print,
     /// `eval`: the cost of a plan, or its first fault.
     Eval,
+    /// `check`: whether a certificate proves its claim, or its first fault.
+    Check,
 }
 
 /// The command that the words name.
@@ -37,6 +39,9 @@ fn command_named(word: &str) -> Option<Command>
     }
     if word == "eval" {
         return Some(Command::Eval);
+    }
+    if word == "check" {
+        return Some(Command::Check);
     }
     None
 }

@@ -1,8 +1,9 @@
 //! The program's one call: it reads a model, does what its command says, and writes the answer. `solve` finds a least
-//! plan by a plain search, `print` prints the model, and `eval` judges a plan. A second call takes a model that is built.
+//! plan by a plain search, `print` prints the model, `eval` judges a plan, and `check` a certificate. A second call takes a model that is built.
 #![tactic(auto)]
 
 mod answer;
+mod check;
 mod command;
 mod eval;
 mod limits;

@@ -5,10 +5,12 @@ ghost use Rattle.vrp_io.specs.Bytes.{TookExactly};
 ghost use Rattle.vrp_cli.specs.declared.command.Command.{Command};
 ghost use Rattle.vrp_cli.specs.Commands.{Takes, AreTaken, model_part};
 ghost use Rattle.vrp_cli.specs.Headline.{Answers, Runs, SpellsInfeasible, stream};
-ghost use Rattle.vrp_cli.specs.Endings.{WroteLeast, WroteModel, WroteCost, WroteFault, WrotePlanFault, IsDue};
+ghost use Rattle.vrp_cli.specs.Endings.{WroteLeast, WroteModel, WroteCost, WroteClaim, WroteFault, WrotePlanFault};
+ghost use Rattle.vrp_cli.specs.Endings.{WroteCertificateFault, IsDue};
 ghost use Rattle.vrp_cli.specs.Answer.{status_of, text_of, AnswersInput};
 
 use crate::answer::Answer;
+use crate::check::check;
 use crate::command::{Command, command_of};
 use crate::eval::eval;
 use crate::limits::MAX_INPUT;
@@ -21,7 +23,7 @@ use vrp_io::{Gate, ReadFault, Sink, Source, read_all, write_all};
 
 /// How a run ended: the number that the program ends with.
 ///
-/// 0 optimal, printed or fine, 1 infeasible, 2 refused words, 3 refused model, 4 refused paths or plan, 7 fault of
+/// 0 optimal, printed, fine or accepted, 1 infeasible, 2 refused words, 3 refused model, 4 refused paths, plan or certificate, 7 fault of
 /// reading, 8 fault of writing, 9 out of memory, 10 input too long.
 #[derive(Clone, Copy, Debug, PartialEq, Eq)]
 pub struct Status {
@@ -42,8 +44,10 @@ pub fn run_vrp<R: Threads + Sync, S: Source, K: Sink, G: Gate + Sync>(
 ) -> Status
     // The whole story: an answer to the words and the input, and how it was told.
     ensures run { Runs (map string_bytes words.now)
-        (stream (S.left source.old) (S.faults source.old)) (stream (S.left source.new) (S.faults source.new))
-        (stream (K.written sink.old) (K.faults sink.old)) (stream (K.written sink.new) (K.faults sink.new))
+        (stream (S.left source.old) (S.faults source.old) S.answers_each_fault)
+        (stream (S.left source.new) (S.faults source.new) S.answers_each_fault)
+        (stream (K.written sink.old) (K.faults sink.old) K.answers_each_fault)
+        (stream (K.written sink.new) (K.faults sink.new) K.answers_each_fault)
         result.number }
 
     // What each status says.
@@ -53,6 +57,8 @@ pub fn run_vrp<R: Threads + Sync, S: Source, K: Sink, G: Gate + Sync>(
         → IfSome (S.left source.old) (WroteModel (K.written sink.old) (K.written sink.new)) }
     ensures fine { Takes (map string_bytes words.now) Command.Eval → result.number ≡ 0
         → IfSome (S.left source.old) (WroteCost (K.written sink.old) (K.written sink.new)) }
+    ensures accepted { Takes (map string_bytes words.now) Command.Check → result.number ≡ 0
+        → IfSome (S.left source.old) (WroteClaim (K.written sink.old) (K.written sink.new)) }
     ensures infeasible { result.number ≡ 1 → Takes (map string_bytes words.now) Command.Solve
         × IfSome (S.left source.old) SpellsInfeasible
         × Appends (K.written sink.old) (K.written sink.new) (codes "infeasible\n") }
@@ -61,8 +67,10 @@ pub fn run_vrp<R: Threads + Sync, S: Source, K: Sink, G: Gate + Sync>(
         × Takes (map string_bytes words.now) command
         × IfSome (S.left source.old) (λ input.
         WroteFault (K.written sink.old) (K.written sink.new) (model_part command input)) }
-    ensures refused { result.number ≡ 4 → Takes (map string_bytes words.now) Command.Eval
-        × IfSome (S.left source.old) (WrotePlanFault (K.written sink.old) (K.written sink.new)) }
+    ensures refused { result.number ≡ 4 → (Takes (map string_bytes words.now) Command.Eval
+        × IfSome (S.left source.old) (WrotePlanFault (K.written sink.old) (K.written sink.new)))
+        ⊎ (Takes (map string_bytes words.now) Command.Check
+        × IfSome (S.left source.old) (WroteCertificateFault (K.written sink.old) (K.written sink.new))) }
     ensures read { result.number ≡ 7 → Rose (S.faults source.old) (S.faults source.new) }
     ensures write { result.number ≡ 8 → Rose (K.faults sink.old) (K.faults sink.new) }
     ensures long { result.number ≡ 10 →
@@ -87,8 +95,10 @@ fn answer_words<S: Source, K: Sink>(
     sink: &mut K,
 ) -> Status
     ensures run { Runs (map string_bytes words.now)
-        (stream (S.left source.old) (S.faults source.old)) (stream (S.left source.new) (S.faults source.new))
-        (stream (K.written sink.old) (K.faults sink.old)) (stream (K.written sink.new) (K.faults sink.new))
+        (stream (S.left source.old) (S.faults source.old) S.answers_each_fault)
+        (stream (S.left source.new) (S.faults source.new) S.answers_each_fault)
+        (stream (K.written sink.old) (K.faults sink.old) K.answers_each_fault)
+        (stream (K.written sink.new) (K.faults sink.new) K.answers_each_fault)
         result.number }
     ensures unread { (AreTaken (map string_bytes words.now) → ⊥) → source.new ≡ source.old }
 {
@@ -104,7 +114,8 @@ fn answer_words<S: Source, K: Sink>(
 /// The answer to the words and the input.
 fn decide<S: Source>(alloc: Global, words: &[String], source: &mut S) -> Answer
     ensures answers { Answers (map string_bytes words.now)
-        (stream (S.left source.old) (S.faults source.old)) (stream (S.left source.new) (S.faults source.new))
+        (stream (S.left source.old) (S.faults source.old) S.answers_each_fault)
+        (stream (S.left source.new) (S.faults source.new) S.answers_each_fault)
         (status_of result) (text_of result) }
     ensures unread { (AreTaken (map string_bytes words.now) → ⊥) → source.new ≡ source.old }
 {
@@ -131,5 +142,6 @@ fn answer_input(alloc: Global, command: Command, input: &[u8]) -> Result<Answer,
         Command::Solve => solve(alloc, input),
         Command::Print => print(alloc, input),
         Command::Eval => eval(alloc, input),
+        Command::Check => check(alloc, input),
     }
 }

@@ -1,8 +1,11 @@
 ghost use Rattle.std.specs.Prelude.{◌≡◌, ◌∷◌, [], ◌++◌, IfOk, OnOk};
 ghost use Rattle.std.specs.List.{flat_map};
 ghost use Rattle.std.specs.Fmt.{decimal};
-ghost use Rattle.vrp_cli.specs.Texts.{cost_line, fault_text, plan_fault_words, refused_plan_text};
+ghost use Rattle.vrp_cli.specs.Texts.{accepted_text, claim_words, cost_line, fault_text, plan_fault_words};
+ghost use Rattle.vrp_cli.specs.Texts.{refused_certificate_text, refused_plan_text};
 
+use cert_check::CheckFault;
+use certificate::Goal;
 use model_text::{LineWriter, TextFault};
 use path_graph::NoMemory;
 use route_model::Verdict;
@@ -33,6 +36,43 @@ pub(crate) fn fault_line(
     text.word(fault.kind.name().as_bytes())?;
     text.end_line()?;
     Ok(text)
+}
+
+/// `refused certificate LINE NUMBER KIND`
+pub(crate) fn check_fault_line(alloc: Global, fault: CheckFault) -> Result<LineWriter, NoMemory>
+    ensures { IfOk result (λ text. text ≡ refused_certificate_text fault) }
+{
+    let mut text = LineWriter::new(alloc);
+    text.first(b"refused")?;
+    text.word(b"certificate")?;
+    text.number(fault.line)?;
+    text.number(fault.kind.number())?;
+    text.word(fault.kind.name().as_bytes())?;
+    text.end_line()?;
+    Ok(text)
+}
+
+/// `accepted`, then the claim of a certificate.
+pub(crate) fn accepted_line(alloc: Global, claim: Goal) -> Result<LineWriter, NoMemory>
+    ensures { IfOk result (λ text. text ≡ accepted_text claim) }
+{
+    let mut text = LineWriter::new(alloc);
+    text.first(b"accepted")?;
+    write_claim(&mut text, claim)?;
+    text.end_line()?;
+    Ok(text)
+}
+
+fn write_claim(text: &mut LineWriter, claim: Goal) -> Result<(), NoMemory>
+    ensures { OnOk result (text.new ≡ text.old ++ flat_map (λ word. 32 ∷ word) (claim_words claim)) }
+{
+    match claim {
+        Goal::Optimal(cost) => {
+            text.word(b"optimal")?;
+            text.number(cost)
+        }
+        Goal::Infeasible => text.word(b"infeasible"),
+    }
 }
 
 /// `refused plan`, then the first fault of a plan.

@@ -1,7 +1,7 @@
-ghost use Rattle.std.specs.Prelude.{◌≡◌, ◌<◌, length, Some, IfOk};
+ghost use Rattle.std.specs.Prelude.{◌≡◌, ◌<◌, length, Some, IfOk, OnOk, true};
 ghost use Rattle.std.specs.Io.{WritesAtMost};
 ghost use Rattle.std.specs.Io.KnownBytes.{WriteAppends};
-ghost use Rattle.vrp_io.specs.Counts.{next_count, HasCause};
+ghost use Rattle.vrp_io.specs.Counts.{next_count, Kept, HasCause};
 ghost use Rattle.vrp_io.specs.Memory.{new_sink, WritesMemory};
 
 use crate::fault::Failed;
@@ -72,6 +72,8 @@ impl Sink for MemSink {
 
     ghost faults = { λ s. s.faults };
 
+    ghost answers_each_fault = { true };
+
     ghost calls = { λ s. s.calls };
 
     ghost wrote = { λ s bytes r t. WritesMemory s bytes r t };
@@ -85,6 +87,7 @@ impl Sink for MemSink {
         ensures bytes { WriteAppends (Some self.old.written) (Some self.new.written)
             result piece.now }
         ensures cause { HasCause self.old.faults self.new.faults result }
+        ensures kept { OnOk result (Kept true self.old.faults self.new.faults) }
         ensures counted { self.new.calls ≡ next_count self.old.calls }
     {
         self.calls = self.calls.saturating_add(1);

@@ -1,7 +1,7 @@
-ghost use Rattle.std.specs.Prelude.{◌≡◌, ◌<◌, min, length, take, Some, IfOk};
+ghost use Rattle.std.specs.Prelude.{◌≡◌, ◌<◌, min, length, take, Some, IfOk, OnOk, true};
 ghost use Rattle.std.specs.Io.{ReadsAtMost};
 ghost use Rattle.std.specs.Io.KnownBytes.{ReadConsumes};
-ghost use Rattle.vrp_io.specs.Counts.{next_count, HasCause};
+ghost use Rattle.vrp_io.specs.Counts.{next_count, Kept, HasCause};
 ghost use Rattle.vrp_io.specs.Memory.{new_source, ReadsMemory};
 
 use crate::fault::Failed;
@@ -79,6 +79,8 @@ impl Source for MemSource {
 
     ghost faults = { λ s. s.faults };
 
+    ghost answers_each_fault = { true };
+
     ghost calls = { λ s. s.calls };
 
     fn read(&mut self, buf: &mut [u8]) -> Result<usize, Failed>
@@ -88,6 +90,7 @@ impl Source for MemSource {
         ensures bound { ReadsAtMost result buf.new }
         ensures bytes { ReadConsumes (Some self.old.left) (Some self.new.left) result buf.new }
         ensures cause { HasCause self.old.faults self.new.faults result }
+        ensures kept { OnOk result (Kept true self.old.faults self.new.faults) }
         ensures counted { self.new.calls ≡ next_count self.old.calls }
     {
         self.calls = self.calls.saturating_add(1);

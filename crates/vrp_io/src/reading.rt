@@ -1,6 +1,6 @@
 ghost use Rattle.std.specs.Prelude.{◌≡◌, ◌≢◌, ◌+◌, ◌<◌, ◌≤◌, length, vec_len, IfOk, OnErr};
 ghost use Rattle.std.specs.Io.KnownBytes.{Keeps};
-ghost use Rattle.vrp_io.specs.Counts.{Rose};
+ghost use Rattle.vrp_io.specs.Counts.{Rose, Kept};
 ghost use Rattle.vrp_io.specs.Bytes.{TookAll, TookAtMost, TookExactly, MovesBytes};
 
 use crate::fault::ReadFault;
@@ -25,6 +25,8 @@ fn read_more<S: Source>(
     ensures later { S.faults source.old ≤ S.faults source.new }
     ensures read { result ≡ Err ReadFault.Read →
         Rose (S.faults source.old) (S.faults source.new) }
+    ensures kept { result ≢ Err ReadFault.Read →
+        Kept S.answers_each_fault (S.faults source.old) (S.faults source.new) }
     ensures never_long { result ≢ Err ReadFault.TooLong }
     ensures one { S.calls source.new ≤ S.calls source.old + 1 }
 {
@@ -55,9 +57,11 @@ pub fn read_all<S: Source>(alloc: Global, source: &mut S, limit: u32) -> Result<
     ensures short { result ≢ Err ReadFault.TooLong →
         TookAtMost (S.left source.old) (S.left source.new) limit }
 
-    // A fault is answered only where one came.
+    // A fault is answered only where one came, and none is passed over of a source that answers each.
     ensures read { result ≡ Err ReadFault.Read →
         Rose (S.faults source.old) (S.faults source.new) }
+    ensures kept { result ≢ Err ReadFault.Read →
+        Kept S.answers_each_fault (S.faults source.old) (S.faults source.new) }
     ensures later { S.faults source.old ≤ S.faults source.new }
 
     ensures reads { S.calls source.new ≤ S.calls source.old + limit + 2 }

@@ -1,7 +1,7 @@
-ghost use Rattle.std.specs.Prelude.{◌≡◌, ◌<◌, length, IfOk, OnErr};
+ghost use Rattle.std.specs.Prelude.{◌≡◌, ◌<◌, length, IfOk, OnErr, OnOk, true};
 ghost use Rattle.std.specs.Io.{WritesAtMost};
 ghost use Rattle.std.specs.Io.KnownBytes.{WriteAppends};
-ghost use Rattle.vrp_io.specs.Counts.{next_count, HasCause};
+ghost use Rattle.vrp_io.specs.Counts.{next_count, Kept, HasCause};
 
 use crate::fault::Failed;
 use crate::sink::Sink;
@@ -38,6 +38,8 @@ impl<W: Write> Sink for StdSink<W> {
 
     ghost faults = { λ s. s.faults };
 
+    ghost answers_each_fault = { true };
+
     ghost calls = { λ s. s.calls };
 
     fn write(&mut self, piece: &[u8]) -> Result<usize, Failed>
@@ -51,6 +53,8 @@ impl<W: Write> Sink for StdSink<W> {
             (⟦<StdSink<W> as Sink>⟧.written self.new) result piece.now }
         ensures cause { HasCause (⟦<StdSink<W> as Sink>⟧.faults self.old)
             (⟦<StdSink<W> as Sink>⟧.faults self.new) result }
+        ensures kept { OnOk result (Kept true (⟦<StdSink<W> as Sink>⟧.faults self.old)
+            (⟦<StdSink<W> as Sink>⟧.faults self.new)) }
         ensures counted { ⟦<StdSink<W> as Sink>⟧.calls self.new
             ≡ next_count (⟦<StdSink<W> as Sink>⟧.calls self.old) }
     {

@@ -1,7 +1,7 @@
-ghost use Rattle.std.specs.Prelude.{◌≡◌, OnErr};
+ghost use Rattle.std.specs.Prelude.{◌≡◌, OnErr, OnOk, true};
 ghost use Rattle.std.specs.Io.{ReadsAtMost};
 ghost use Rattle.std.specs.Io.KnownBytes.{ReadConsumes};
-ghost use Rattle.vrp_io.specs.Counts.{next_count, HasCause};
+ghost use Rattle.vrp_io.specs.Counts.{next_count, Kept, HasCause};
 
 use crate::fault::Failed;
 use crate::source::Source;
@@ -37,6 +37,8 @@ impl<R: Read> Source for StdSource<R> {
 
     ghost faults = { λ s. s.faults };
 
+    ghost answers_each_fault = { true };
+
     ghost calls = { λ s. s.calls };
 
     fn read(&mut self, buf: &mut [u8]) -> Result<usize, Failed>
@@ -49,6 +51,8 @@ impl<R: Read> Source for StdSource<R> {
             (⟦<StdSource<R> as Source>⟧.left self.new) result buf.new }
         ensures cause { HasCause (⟦<StdSource<R> as Source>⟧.faults self.old)
             (⟦<StdSource<R> as Source>⟧.faults self.new) result }
+        ensures kept { OnOk result (Kept true (⟦<StdSource<R> as Source>⟧.faults self.old)
+            (⟦<StdSource<R> as Source>⟧.faults self.new)) }
         ensures counted { ⟦<StdSource<R> as Source>⟧.calls self.new
             ≡ next_count (⟦<StdSource<R> as Source>⟧.calls self.old) }
     {

@@ -1,6 +1,6 @@
 ghost use Rattle.std.specs.Prelude.{◌≡◌, ◌+◌, ◌≤◌, [], length, OnOk, MatchResult};
 ghost use Rattle.std.specs.Io.KnownBytes.{Appends};
-ghost use Rattle.vrp_io.specs.Counts.{Rose};
+ghost use Rattle.vrp_io.specs.Counts.{Rose, Kept};
 ghost use Rattle.vrp_io.specs.Handed.{Handed, HandedUntilFault};
 ghost use Rattle.vrp_io.specs.Bytes.{AppendedPrefix};
 
@@ -12,9 +12,10 @@ pub fn write_all<K: Sink>(sink: &mut K, bytes: &[u8]) -> Result<(), WriteFault>
     ensures ok { OnOk result (Appends (K.written sink.old) (K.written sink.new) bytes.now) }
     ensures prefix { AppendedPrefix (K.written sink.old) (K.written sink.new) bytes.now }
 
-    // A fault is answered only where one came.
+    // A fault is answered only where one came, and none is passed over of a sink that answers each.
     ensures write { result ≡ Err WriteFault.Write →
         Rose (K.faults sink.old) (K.faults sink.new) }
+    ensures kept { OnOk result (Kept K.answers_each_fault (K.faults sink.old) (K.faults sink.new)) }
     ensures later { K.faults sink.old ≤ K.faults sink.new }
 
     // Each write is handed all that is left, up to the end or the fault.

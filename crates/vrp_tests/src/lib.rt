@@ -2,11 +2,15 @@
 #![tactic(auto)]
 
 #[cfg(test)]
+mod checking;
+#[cfg(test)]
 mod evaluating;
 #[cfg(test)]
 mod printing;
 #[cfg(test)]
 mod refused_words;
+#[cfg(test)]
+mod retrying;
 #[cfg(test)]
 mod running;
 #[cfg(test)]

@@ -21,4 +21,4 @@ returns-clause-counts c =
     let room : c.count_of.result + count ≤ 4096 = grind (arith, nat_tests, c.in_ok-fault_if.ensures.passes) in
     let few : count_at (get nat_cmp c.args.counts.now) graph + count ≤ 4096 = omega (arith, room, c.count_of.ensures) in
     rw c.in_ok-push.ensures.ok
-    (counts_more c.args.counts.now c.insert.new.self c.args.draft.now.plan (record { graph = graph; count = count; arcs = c.in_ok-arcs.arcs }) c.requires (rw c.count_of.ensures at c.in_ok-insert.ensures.updates) few)
+    (counts_more c.args.counts.now c.insert.new.self c.args.plan.now (record { graph = graph; count = count; arcs = c.in_ok-arcs.arcs }) c.requires (rw c.count_of.ensures at c.in_ok-insert.ensures.updates) few)

@@ -12,5 +12,5 @@ loop-var-preserved c =
     let k = c.loop-var.var-index in
     let var : ℕ = slice_index vars k in
     let few : k ≤ 16 = omega (arith, c.requires.fits.few) in
-    sum_step (int_at units) vars k (to_z w128 c.loop-var.total-bits) (int_at units var) c.added-total.result c.loop-var-test.true few c.loop-var.invariant
-    (c.requires.small var (c.requires.fits.each k 0 c.loop-var-test.true)) refl c.added-total.ensures
+    sum_step (int_at units) vars k (to_z w128 c.loop-var.total-bits) (int_at units var) c.plus-total.result c.loop-var-test.true few c.loop-var.invariant
+    (c.requires.small var (c.requires.fits.each k 0 c.loop-var-test.true)) refl c.plus-total.ensures

@@ -15,6 +15,6 @@ loop-c-preserved c =
     let mults = c.args.mults.now in
     let few : k ≤ 30000 = omega arith in
     let read = c.index-cuts-c.is ∙ get_or_default c.args.cuts.now k c.index-cuts-c.result (cut_at [] 0) c.loop-c-test.true in
-    term_step (λ i. or_zero (term (neg_ℤ (pos (slice_index mults i))) (up_to (right_side_of (cut_at c.args.cuts.now i))))) k (to_z w128 c.loop-c.total-bits) c.cut_term.result c.added-total.result few c.loop-c.invariant
+    term_step (λ i. or_zero (term (neg_ℤ (pos (slice_index mults i))) (up_to (right_side_of (cut_at c.args.cuts.now i))))) k (to_z w128 c.loop-c.total-bits) c.cut_term.result c.plus-total.result few c.loop-c.invariant
     (c.cut_term.ensures.value ∙ ap (λ (cut : Cut). or_zero (term (neg_ℤ (pos (slice_index mults k))) (up_to (right_side_of cut)))) read)
-    c.cut_term.ensures.small c.added-total.ensures
+    c.cut_term.ensures.small c.plus-total.ensures

@@ -21,7 +21,7 @@ loop-i-preserved c =
     let is : Some c.in-Some.term ≡ least k =
     c.in-Some.ensures.term ∙ (term_read (int_at mults k) (sides_of_row c.index-rows-i.result) (c.requires.range k (pos 0) below) ∙ ap (λ (r : Row). term (int_at mults k) (sides_of_row r)) row) in
     record {
-      sum = term_step (λ i. or_zero (least i)) k (to_z w128 c.loop-i.total-bits) c.in-Some.term c.added-total.result few c.loop-i.invariant.sum (ap or_zero is) c.in-Some.ensures.small c.added-total.ensures;
+      sum = term_step (λ i. or_zero (least i)) k (to_z w128 c.loop-i.total-bits) c.in-Some.term c.plus-total.result few c.loop-i.invariant.sum (ap or_zero is) c.in-Some.ensures.small c.plus-total.ensures;
       defined = defined_more least k c.in-Some.term c.loop-i.invariant.defined is;
     }
 

@@ -12,6 +12,6 @@ loop-k-preserved c =
     let mults = c.args.mults.now in
     let few : k ≤ 30000 = omega arith in
     let below : k < length mults = omega arith in
-    term_step (λ i. or_zero (term (int_at mults i) (sides_of (span_at c.args.spans.now i)))) k (to_z w128 c.loop-k.total-bits) c.span_term.result c.added-total.result few c.loop-k.invariant
+    term_step (λ i. or_zero (term (int_at mults i) (sides_of (span_at c.args.spans.now i)))) k (to_z w128 c.loop-k.total-bits) c.span_term.result c.plus-total.result few c.loop-k.invariant
     (c.span_term.ensures.value ∙ ap or_zero (term_read (int_at mults k) (sides_of (span_at c.args.spans.now k)) (c.requires.range k (pos 0) below)))
-    c.span_term.ensures.small c.added-total.ensures
+    c.span_term.ensures.small c.plus-total.ensures

@@ -6,6 +6,6 @@ use Rattle.safe_bound.proofs.bounds.bound_from.Goals as goal
 
 pub returns-in-None-clause-bound : goal.returns-in-None-clause-bound
 returns-in-None-clause-bound c =
-    let total = sum_told c.args.base c.term_sum.result c.added.result c.requires.base c.term_sum.ensures.range c.added.ensures in
-    bound_made (length c.args.spans.now) c.args.spans.now c.args.leasts.now c.args.base (to_z w128 (of_z w128 c.added.result)) c.in-None.ensures
+    let total = sum_told c.args.base c.term_sum.result c.plus.result c.requires.base c.term_sum.ensures.range c.plus.ensures in
+    bound_made (length c.args.spans.now) c.args.spans.now c.args.leasts.now c.args.base (to_z w128 (of_z w128 c.plus.result)) c.in-None.ensures
     (total ∙ ap (λ (x : ℤ). c.args.base +ℤ x) c.term_sum.ensures.sum)

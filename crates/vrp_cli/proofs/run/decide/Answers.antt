@@ -11,10 +11,10 @@ returns-in_default-clause-answers g c = words_refused (λ taken. c.in_default.en
 pub returns-in-Ok-answer_input-clause-answers : goal.returns-in-Ok-answer_input-clause-answers
 returns-in-Ok-answer_input-clause-answers g c =
     let holds = subst (λ (bytes : List ℕ). AnswersInput c.in-Some.command bytes c.in-Ok-answer_input.answer) c.as_slice.ensures c.in-Ok-answer_input.ensures in
-    answers_input (map string_bytes c.args.words.now) (stream (g.S.Source.left c.args.source.now) (g.S.Source.faults c.args.source.now)) (stream (g.S.Source.left c.read_all.new.source) (g.S.Source.faults c.read_all.new.source)) c.in-Some.command c.in-Ok.input c.in-Ok-answer_input.answer c.in-Some.ensures c.in-Ok.ensures.bytes c.in-Ok.ensures.few holds
+    answers_input (map string_bytes c.args.words.now) (stream (g.S.Source.left c.args.source.now) (g.S.Source.faults c.args.source.now) g.S.Source.answers_each_fault) (stream (g.S.Source.left c.read_all.new.source) (g.S.Source.faults c.read_all.new.source) g.S.Source.answers_each_fault) c.in-Some.command c.in-Ok.input c.in-Ok-answer_input.answer c.in-Some.ensures c.in-Ok.ensures.bytes (c.in-Ok.ensures.kept (λ e. cc)) c.in-Ok.ensures.few holds
 
 pub returns-in-Ok-clause-answers : goal.returns-in-Ok-clause-answers
-returns-in-Ok-clause-answers g c = no_memory (c.in-Some.command, c.in-Some.ensures) (c.in-Ok.ensures.short (λ e. cc))
+returns-in-Ok-clause-answers g c = no_memory (c.in-Some.command, c.in-Some.ensures) (c.in-Ok.ensures.short (λ e. cc)) (c.in-Ok.ensures.kept (λ e. cc))
 
 pub returns-in-Err-Read-clause-answers : goal.returns-in-Err-Read-clause-answers
 returns-in-Err-Read-clause-answers g c =
@@ -24,9 +24,9 @@ returns-in-Err-Read-clause-answers g c =
 pub returns-in-Err-TooLong-clause-answers : goal.returns-in-Err-TooLong-clause-answers
 returns-in-Err-TooLong-clause-answers g c =
     let read = rw c.in-Err-TooLong.field-0-is at c.in-Err-TooLong.ensures in
-    too_long (c.in-Some.command, c.in-Some.ensures) (read.long refl)
+    too_long (c.in-Some.command, c.in-Some.ensures) (read.long refl) (read.kept (λ e. cc))
 
 pub returns-clause-answers : goal.returns-clause-answers
 returns-clause-answers g c =
     let read = rw c.in-Err-Memory.field-0-is at c.in-Err-Memory.ensures in
-    no_memory (c.in-Some.command, c.in-Some.ensures) (read.short (λ e. cc))
+    no_memory (c.in-Some.command, c.in-Some.ensures) (read.short (λ e. cc)) (read.kept (λ e. cc))

@@ -1,4 +1,4 @@
-use Rattle.vrp_cli.proofs.ClauseLemmas.{optimal_of, print_of, fine_of, infeasible_of, words_of, model_of, refused_of, read_of, write_of, long_of, unread_of}
+use Rattle.vrp_cli.proofs.ClauseLemmas.{optimal_of, print_of, fine_of, accepted_of, infeasible_of, words_of, model_of, refused_of, read_of, write_of, long_of, unread_of}
 use Rattle.vrp_cli.proofs.DueLemmas.{due_of}
 use Rattle.vrp_cli.proofs.run.run_vrp.Goals as goal
 
@@ -10,6 +10,9 @@ returns-clause-print g c = print_of c.answer_words.ensures.run
 
 pub returns-clause-fine : goal.returns-clause-fine
 returns-clause-fine g c = fine_of c.answer_words.ensures.run
+
+pub returns-clause-accepted : goal.returns-clause-accepted
+returns-clause-accepted g c = accepted_of c.answer_words.ensures.run
 
 pub returns-clause-infeasible : goal.returns-clause-infeasible
 returns-clause-infeasible g c = infeasible_of c.answer_words.ensures.run

@@ -1,0 +1,3 @@
+pub mod ChosenLemmas
+pub mod PairLemmas
+pub mod FixingLemmas

@@ -1,0 +1,4 @@
+pub mod ChoiceLemmas
+pub mod OrderLemmas
+pub mod SplitLemmas
+pub mod Examples

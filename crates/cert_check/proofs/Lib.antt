@@ -1,0 +1,15 @@
+pub mod StackLemmas
+pub mod ListedLemmas
+pub mod FitLemmas
+pub mod ReadLemmas
+pub mod PlanLemmas
+pub mod LoopLemmas
+pub mod TermLemmas
+pub mod PriceLemmas
+pub mod PointLemmas
+pub mod KeepLemmas
+pub mod NodeLemmas
+pub mod CertLemmas
+pub mod ProvedLemmas
+pub mod NameLemmas
+pub mod FirstLemmas

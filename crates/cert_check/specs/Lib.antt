@@ -1,0 +1,10 @@
+pub mod Kinds
+pub mod Frames
+pub mod Faults
+pub mod Verdicts
+pub mod Reads
+pub mod Proofs
+pub mod Lists
+pub mod Costs
+pub mod Points
+pub mod Laws

@@ -1,0 +1,21 @@
+pub mod SetWordLemmas
+pub mod LabelReads
+pub mod ProofReads
+pub mod CertReads
+pub mod ItemLists
+pub mod CertSteps
+pub mod CertLeads
+pub mod LineNumbers
+pub mod CertForms
+pub mod CertLaws
+pub mod SizesLemmas
+pub mod KindLemmas
+pub mod MultLines
+pub mod MultOrder
+pub mod DropRuns
+pub mod DraftFits
+pub mod CertPrinted
+pub mod LeanLines
+pub mod CertPrintLaws
+pub mod PrintSteps
+mod PrintExamples

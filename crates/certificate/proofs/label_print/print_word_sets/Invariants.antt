@@ -1,0 +1,9 @@
+use Rattle.std.proofs.Common.{◌≡◌, ◌*◌, ◌++◌, map, filter}
+use Rattle.std.specs.Prelude.{decimal}
+use Rattle.std.specs.List.{range_with_len}
+use Rattle.path_graph.specs.SetBits.{has_set}
+use Rattle.certificate.specs.CertPrint.{further}
+use Rattle.certificate.proofs.label_print.print_word_sets.Given as goal
+
+abbrev pub invariant-loop-bit : goal.invariant-loop-bit
+invariant-loop-bit l = l.text ≡ l.initial.text ++ further (map decimal (filter (has_set l.set) (range_with_len (l.word * 64) l.bit)))

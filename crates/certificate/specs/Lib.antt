@@ -1,0 +1,13 @@
+pub mod Sizes
+pub mod SetWords
+pub mod LabelWords
+pub mod ProofWords
+pub mod Draft
+pub mod LineKinds
+pub mod CertText
+pub mod Meaning
+pub mod Reading
+pub mod Spelling
+pub mod CertFits
+pub mod CertPrint
+pub mod PrintedText

@@ -1,0 +1,5 @@
+pub mod Amounts
+pub mod Columns
+pub mod Walks
+pub mod Index
+pub mod Changes

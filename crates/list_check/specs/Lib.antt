@@ -1,0 +1,5 @@
+pub mod Prefixes
+pub mod Nodes
+pub mod Lines
+pub mod Heads
+pub mod Rests

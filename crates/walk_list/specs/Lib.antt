@@ -1,0 +1,5 @@
+pub mod Prefixes
+pub mod Rests
+pub mod Growing
+pub mod Listings
+pub mod Tasks
