@@ -9,7 +9,7 @@ use Rattle.concatenate.specs.Fit.{MayJoin}
 use Rattle.route_labels.specs.declared.field.Field.{Field}
 use Rattle.route_labels.specs.Meaning.{setting_of}
 use Rattle.walk_list.specs.Listings.{table_at}
-use Rattle.listing_tests.specs.declared.listings.Row.{Row}
+use Rattle.listing_tests.specs.declared.row.Row.{Row}
 
 -- the place, the multipliers, the cuts, the near lists and the prices fit
 pub record RowFits (r : Row) : Type 0 where

@@ -1,7 +1,8 @@
 //! A row: the text of a model, the text of a certificate with one list of walks, and what is said of it: a place,
 //! multipliers, cuts and near lists, the `limits` of the graphs, whether each tree is `complete`, and its `walks`.
 
-use crate::listings::{Row, check_row};
+use crate::listings::check_row;
+use crate::row::Row;
 use crate::rows::ROWS;
 use certificate::{Cert, NodeForm, Proof, Trie, read_cert};
 use model_text::read_model;

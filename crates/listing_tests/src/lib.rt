@@ -7,6 +7,7 @@ mod blocks;
 mod fits;
 #[cfg(test)]
 mod listings;
+mod row;
 #[cfg(test)]
 mod rows;
 #[cfg(test)]

@@ -8,32 +8,16 @@ ghost use Rattle.route_labels.specs.Meaning.{setting_of};
 ghost use Rattle.listing_tests.specs.Rows.{HaveRests, RowFits, field_in};
 
 use crate::fits::{leasts_near, may_all_join};
+use crate::row::Row;
 use crate::trees::{check_tree, completes};
 use certificate::Trie;
-use label_rules::ProofTable;
-use ng_sets::Near;
 use path_graph::List;
-use rank1_cuts::Cut;
 use route_labels::Field;
-use route_model::{Model, Mult, Priced, Spot};
 use std::alloc::Global;
 use std::process::Abort;
 use std::test::Fail;
 use test_models::blocks::numbers;
 use walk_list::{Listed, list_walks};
-
-/// What a row is about.
-#[derive(Clone, Copy)]
-pub struct Row<'a> {
-    pub model: &'a Model,
-    pub spot: &'a Spot,
-    pub mult: &'a Mult,
-    pub weights: &'a [u64],
-    pub priced: &'a Priced,
-    pub near: &'a Near,
-    pub cuts: &'a [Cut],
-    pub tables: &'a [ProofTable],
-}
 
 /// What the labels of a graph are made from.
 fn field_of<'a>(row: &Row<'a>, graph: u32) -> Field<'a>
