@@ -2,14 +2,14 @@
 
 ghost use Rattle.std.specs.Prelude.{◌≡◌, ◌<◌, All, IsTrue, length};
 ghost use Rattle.concatenate.specs.Fit.{MayJoin};
-ghost use Rattle.walk_list.specs.Listings.{table_at};
+ghost use Rattle.walk_list.specs.Listings.{ListingFits, table_at};
 ghost use Rattle.route_labels.specs.Fit.{FieldFits};
 ghost use Rattle.route_labels.specs.Meaning.{setting_of};
 ghost use Rattle.listing_tests.specs.Rows.{HaveRests, RowFits, field_in};
 
 use crate::fits::{leasts_near, may_all_join};
 use crate::row::Row;
-use crate::trees::{check_tree, completes};
+use crate::trees::{check_listed, check_tree, completes};
 use certificate::Trie;
 use path_graph::List;
 use route_labels::Field;
@@ -17,7 +17,7 @@ use std::alloc::Global;
 use std::process::Abort;
 use std::test::Fail;
 use test_models::blocks::numbers;
-use walk_list::{Listed, list_walks};
+use walk_list::{Listed, ListedWalk, list_walks, listed_walks};
 
 /// What the labels of a graph are made from.
 fn field_of<'a>(row: &Row<'a>, graph: u32) -> Field<'a>
@@ -67,8 +67,8 @@ fn have_rests(row: &Row) -> bool
     true
 }
 
-/// The listing of a row, where the parts of its tables fit.
-fn listed(alloc: Global, row: &Row, z: i64, limit: u32) -> Result<Listed, Fail>
+/// The listing of a row, where the parts of its tables fit, with the walks of its trees where they are whole.
+fn listed(alloc: Global, row: &Row, z: i64, limit: u32) -> Result<(Listed, List<ListedWalk>), Fail>
     requires { RowFits row.now }
 {
     if !have_rests(row) {
@@ -77,7 +77,20 @@ fn listed(alloc: Global, row: &Row, z: i64, limit: u32) -> Result<Listed, Fail>
     if !leasts_near(row.tables) {
         return Err(Fail::new("leasts out of range"));
     }
-    Ok(list_walks(
+    with_walks(alloc, row, z, limit)
+}
+
+/// The same of a row of which this is known.
+fn with_walks(
+    alloc: Global,
+    row: &Row,
+    z: i64,
+    limit: u32,
+) -> Result<(Listed, List<ListedWalk>), Fail>
+    requires { ListingFits row.now.model.now row.now.spot.now row.now.priced.now row.now.near.now row.now.cuts.now row.now.weights.now
+        row.now.tables.now }
+{
+    let made = list_walks(
         alloc,
         row.model,
         row.spot,
@@ -88,7 +101,24 @@ fn listed(alloc: Global, row: &Row, z: i64, limit: u32) -> Result<Listed, Fail>
         row.tables,
         z,
         limit,
-    ))
+    );
+    match made {
+        Listed::Tries(tries) => {
+            let walks = listed_walks(
+                alloc,
+                row.model,
+                row.spot,
+                row.priced,
+                row.near,
+                row.cuts,
+                row.weights,
+                row.tables,
+                tries.as_slice(),
+            )?;
+            Ok((Listed::Tries(tries), walks))
+        }
+        made => Ok((made, List::new(alloc))),
+    }
 }
 
 /// The trees of the row, and what listings make of it. A line `lists` or `wall` has a cost to beat, a limit, and the numbers
@@ -135,11 +165,13 @@ fn check_listing<R: Abort>(
     let (Some(z), Some(limit)) = (numbers.first(), numbers.get(1)) else {
         return Err(Fail::new("a listing without a limit"));
     };
-    match listed(alloc, row, i64::from(*z), *limit)? {
+    let (made, walks) = listed(alloc, row, i64::from(*z), *limit)?;
+    match made {
         Listed::Memory => Err(Fail::new("no memory")),
         Listed::Tries(tries) => {
             assert!(rt; whole, "{said}");
             check_lines(rt, &tries, numbers.as_slice(), said)?;
+            check_listed(rt, alloc, walks.as_slice(), said)?;
             check_complete(rt, alloc, row, &tries, said)
         }
         Listed::Wall(tries) => {

@@ -15,6 +15,7 @@ use std::process::Abort;
 use std::test::Fail;
 use test_models::blocks::numbers;
 use test_places::said::after;
+use walk_list::ListedWalk;
 
 /// The number or `none` at a place of a line.
 fn limit_at(said: &str, graph: usize) -> Result<Option<i128>, Fail> {
@@ -100,5 +101,26 @@ fn check_walks<R: Abort>(
         count = k;
     }
     assert!(rt; walks.is_empty() || walks.len() - 1 == count, "{said}");
+    Ok(())
+}
+
+/// The walks of a listing against those that are said of all graphs, in their order.
+pub fn check_listed<R: Abort>(
+    rt: &R,
+    alloc: Global,
+    walks: &[ListedWalk],
+    said: &str,
+) -> Result<(), Fail> {
+    let mut left = walks.iter();
+    let lines = said.lines().filter_map(|line| line.strip_prefix("walks"));
+    for (graph, line) in lines.enumerate() {
+        for part in line.split("/").skip(1) {
+            let walk = left.next().ok_or("a listed walk that is missing")?;
+            let expected = numbers(alloc, part)?;
+            assert_eq!(rt; walk.graph as usize, graph, "{said}");
+            assert_eq!(rt; walk.arcs.as_slice(), expected.as_slice(), "{said}");
+        }
+    }
+    assert!(rt; left.next().is_none(), "{said}");
     Ok(())
 }

@@ -5,3 +5,4 @@ pub mod SortLemmas
 pub mod RankLemmas
 pub mod TableLemmas
 pub mod JoinedLemmas
+pub mod ToldLemmas

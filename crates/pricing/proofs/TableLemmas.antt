@@ -134,7 +134,7 @@ got_more (z ∷ zs) x y (suc g) e = elim (got_more zs x y g e) [
   | inr k ↦ inr (ap suc k.0, k.1)
 ]
 
-each_more : {X : Type 0} (n : ℕ) (xs : List X) (x : X) (P : ℕ → X → Type 0) → EachHas n xs P → P n x → EachHas (n + 1) (xs ++ x ∷ []) P
+pub each_more : {X : Type 0} (n : ℕ) (xs : List X) (x : X) (P : ℕ → X → Type 0) → EachHas n xs P → P n x → EachHas (n + 1) (xs ++ x ∷ []) P
 each_more {X} n xs x P has p = record {
   count = let size = length-append xs (x ∷ []) in omega (arith, size, has.count);
   each = λ g y e. elim (got_more xs x y g e) [

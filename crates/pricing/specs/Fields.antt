@@ -12,6 +12,8 @@ use Rattle.ng_sets.specs.Near.{FitsGraphs, graph_at}
 use Rattle.multipliers.specs.Priced.{IsPriced}
 use Rattle.multipliers.specs.Ranges.{CutsFit, MultFits}
 use Rattle.label_rules.specs.Labels.{Setting}
+use Rattle.route_labels.specs.declared.field.Field.{Field}
+use Rattle.pricing.specs.declared.fields.Place.{Place}
 
 -- all that a label of graph g sees
 abbrev pub setting_in : ModelParts → Spot → Priced → List (List SetBits) → List Cut → List ℕ → ℕ → Setting
@@ -36,3 +38,7 @@ pub record PlaceFits (m : ModelParts) (spot : Spot) (priced : Priced) (near : Li
   pub weights : mult.cuts ≡ y
   pub priced_is : IsPriced m cuts spot.boxes mult priced
   pub near_fits : FitsGraphs near m.graphs
+
+-- what the labels of graph g are made from at a place
+abbrev pub field_at : Place → ℕ → Field
+field_at p g = record { model = p.model; graph = g; spot = p.spot; priced = p.priced; near = p.near; cuts = p.cuts; y = p.y }

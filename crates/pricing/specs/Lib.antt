@@ -2,6 +2,7 @@ pub mod Fields
 pub mod Tables
 pub mod Walks
 pub mod Outcomes
+pub mod Told
 pub mod Cheap
 pub mod Ranks
 pub mod Halves

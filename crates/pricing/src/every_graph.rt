@@ -1,6 +1,8 @@
 ghost use Rattle.std.specs.Prelude.{◌≡◌, ◌≤◌, length};
+ghost use Rattle.certificate.specs.Sizes.{sizes_of};
 ghost use Rattle.pricing.specs.Fields.{PlaceFits, setting_in};
 ghost use Rattle.pricing.specs.Outcomes.{IsOutcome};
+ghost use Rattle.pricing.specs.Told.{AreAllTold};
 
 use crate::fields::Place;
 use crate::graph_table::{OneOut, table_of};
@@ -25,7 +27,8 @@ pub enum TablesOut {
 /// true of rests too.
 ///
 /// Beside each stands the table of partial walks as it was filled, with the origin of each entry, from which `cheap_walks`
-/// reads walks. A list has at most `limit` labels. Costs are at the scale of 65,536 to a unit of cost.
+/// reads walks. A list has at most `limit` labels; where that is no more than the text of a certificate allows, the tables may
+/// stand in one. Costs are at the scale of 65,536 to a unit of cost.
 pub fn tables(
     alloc: Global,
     model: &Model,
@@ -39,7 +42,8 @@ pub fn tables(
 ) -> TablesOut
     requires fit { PlaceFits model.now spot.now priced.now near.now cuts.now y.now }
     requires limit { 1 ≤ limit }
-    ensures { IsOutcome (length model.now.graphs) (setting_in model.now spot.now priced.now near.now cuts.now y.now) both limit result }
+    ensures outcome { IsOutcome (length model.now.graphs) (setting_in model.now spot.now priced.now near.now cuts.now y.now) both limit result }
+    ensures told { AreAllTold (sizes_of model.now) (length cuts.now) limit result }
 {
     let place = Place {
         model,
@@ -56,7 +60,8 @@ pub fn tables(
 fn tables_at(alloc: Global, place: &Place, both: bool, limit: u32) -> TablesOut
     requires fit { PlaceFits place.now.model.now place.now.spot.now place.now.priced.now place.now.near.now place.now.cuts.now place.now.y.now }
     requires limit { 1 ≤ limit }
-    ensures { IsOutcome (length place.now.model.now.graphs) (setting_in place.now.model.now place.now.spot.now place.now.priced.now place.now.near.now place.now.cuts.now place.now.y.now) both limit result }
+    ensures outcome { IsOutcome (length place.now.model.now.graphs) (setting_in place.now.model.now place.now.spot.now place.now.priced.now place.now.near.now place.now.cuts.now place.now.y.now) both limit result }
+    ensures told { AreAllTold (sizes_of place.now.model.now) (length place.now.cuts.now) limit result }
 {
     let mut tables = List::new(alloc);
     let mut filled = List::new(alloc);

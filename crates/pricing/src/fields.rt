@@ -1,7 +1,8 @@
 ghost use Rattle.std.specs.Prelude.{◌≡◌, ◌<◌, length};
+ghost use Rattle.route_model.specs.Fit.{ModelFits};
 ghost use Rattle.route_labels.specs.Fit.{FieldFits};
 ghost use Rattle.route_labels.specs.Meaning.{setting_of};
-ghost use Rattle.pricing.specs.Fields.{PlaceFits, setting_in};
+ghost use Rattle.pricing.specs.Fields.{PlaceFits, field_at, setting_in};
 
 use ng_sets::Near;
 use rank1_cuts::Cut;
@@ -22,7 +23,8 @@ pub(crate) struct Place<'a> {
 impl<'a> Place<'a> {
     /// How many graphs there are.
     pub(crate) fn graph_count(&self) -> u32
-        ensures { result ≡ length self.now.model.now.graphs }
+        ensures count { result ≡ length self.now.model.now.graphs }
+        ensures model { ModelFits self.now.model.now }
     {
         let model = self.model;
         model.graphs.len() as u32
@@ -35,6 +37,7 @@ impl<'a> Place<'a> {
         ensures fits { FieldFits result }
         ensures setting { setting_of result ≡ setting_in self.now.model.now self.now.spot.now self.now.priced.now self.now.near.now self.now.cuts.now self.now.y.now graph }
         ensures graph { result.graph ≡ graph }
+        ensures is { result ≡ field_at self.now graph }
     {
         Field {
             model: self.model,

@@ -4,6 +4,7 @@
 mod cheap;
 mod every_graph;
 mod fields;
+mod filled;
 mod graph_table;
 mod half_table;
 mod halves;

@@ -1,3 +1,4 @@
 pub mod GrowthLemmas
 pub mod TaskLemmas
 pub mod WantedLemmas
+pub mod WalkLemmas

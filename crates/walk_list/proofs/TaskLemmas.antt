@@ -132,10 +132,11 @@ full_more t limit n tries trie full is none = record {
 }
 
 -- all of them
-pub all_whole : (t : Task) (limit room n : ℕ) (tries : List Trie) → AreWholeBelow t limit room n tries → n ≡ length t.model.now.graphs → AreAllWhole t tries
+pub all_whole : (t : Task) (limit room n : ℕ) (tries : List Trie) → AreWholeBelow t limit room n tries → n ≡ length t.model.now.graphs → AreAllWhole t limit tries
 all_whole t limit room n tries below all = record {
   order = subst (λ (k : ℕ). AreInOrder k tries) all below.order;
   each = λ g l. below.each g (omega (arith, l, all));
+  lines = omega (arith, below.lines);
 }
 
 -- with a proof that has these parts
@@ -147,7 +148,7 @@ module _ (t : Task) (fits : TaskFits t) (p : Proof) (is : IsProofWith t.model.no
   abbrev m : ModelParts
   m = t.model.now
 
-  setting_is : setting_in t g ≡ setting_of m t.spot.now p g
+  pub setting_is : setting_in t g ≡ setting_of m t.spot.now p g
   setting_is =
       setting_same (field_in t g) p.mult is.priced_is is.weights
       ∙ (ap (λ (near : List (List SetBits)). setting_at m t.spot.now near t.cuts.now p.mult g) (sym is.near_same)
@@ -178,7 +179,7 @@ module _ (t : Task) (fits : TaskFits t) (p : Proof) (is : IsProofWith t.model.no
   of_graph : (Is : (S : Setting) → List Label → Option ℤ → List Step → Type 0) → InGraph Is t tries g → OfGraph Is m t.spot.now p t.z (map steps_of tries) g
   of_graph Is h = moved Is _ _ _ _ _ _ _ _ setting_is back_is limit_is steps_are h
 
-lines_are : (tries : List Trie) → sum_by length (map steps_of tries) ≡ lines_in tries
+pub lines_are : (tries : List Trie) → sum_by length (map steps_of tries) ≡ lines_in tries
 lines_are [] = refl
 lines_are (x ∷ xs) =
     let size : length (steps_of x) ≡ length x.steps = length-map x.steps step_of in
@@ -187,9 +188,9 @@ lines_are (x ∷ xs) =
     let two = sum_by-cons (λ (y : Trie). length y.steps) x xs in
     omega (arith, size, rest, one, two)
 
-pub complete_is : (t : Task) (tries : List Trie) → TaskFits t → AreAllWhole t tries
+pub complete_is : (t : Task) (limit : ℕ) (tries : List Trie) → TaskFits t → AreAllWhole t limit tries
     → AreComplete t.model.now t.spot.now (IsProofWith t.model.now t.spot.now t.priced.now t.near.now t.cuts.now t.y.now t.tables.now) t.z tries
-complete_is t tries fits whole = record {
+complete_is t limit tries fits whole = record {
   order = whole.order;
   each = λ p is g l. of_graph t fits p is tries g IsComplete (whole.each g l).complete;
 }

@@ -3,3 +3,4 @@ pub mod Rests
 pub mod Growing
 pub mod Listings
 pub mod Tasks
+pub mod Walks

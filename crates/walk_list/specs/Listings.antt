@@ -1,5 +1,5 @@
 -- What a listing of the walks of a place answers.
-use Rattle.std.specs.Prelude.{◌≡◌, ℕ, ◌<◌, ◌^◌, ℤ, None, IfSome, List, [], All, length, map, sum_by, slice_index_or}
+use Rattle.std.specs.Prelude.{◌≡◌, ℕ, ◌<◌, ◌≤◌, ◌^◌, ℤ, None, IfSome, List, [], All, length, map, sum_by, slice_index_or}
 use Rattle.path_graph.specs.declared.set_bits.SetBits.{SetBits}
 use Rattle.path_graph.specs.First.{EachBelow}
 use Rattle.path_graph.specs.Within.{IsWithin}
@@ -58,6 +58,10 @@ trie_at tries g = slice_index_or tries g (record { graph = 0; steps = [] })
 pub record AreInOrder (count : ℕ) (tries : List Trie) : Type 0 where
   pub count_is : length tries ≡ count
   pub graphs : EachBelow count (λ g. (trie_at tries g).graph ≡ g)
+
+-- they have at most so many lines together
+abbrev pub AreFew : ℕ → List Trie → Type 0
+AreFew most tries = sum_by length (map steps_of tries) ≤ most
 
 -- each is complete against z, whichever proof has these parts
 pub record AreComplete (m : ModelParts) (spot : Spot) (IsOf : Proof → Type 0) (z : ℤ) (tries : List Trie) : Type 0 where

@@ -1,5 +1,5 @@
 -- The parts of a listing by graph, and a listing graph by graph.
-use Rattle.std.specs.Prelude.{◌≡◌, ℕ, ◌<◌, ◌+◌, ℤ, Option, List, length, map, sum_by}
+use Rattle.std.specs.Prelude.{◌≡◌, ℕ, ◌<◌, ◌≤◌, ◌+◌, ℤ, Option, List, length, map, sum_by}
 use Rattle.path_graph.specs.First.{EachBelow}
 use Rattle.label_rules.specs.declared.label.Label.{Label}
 use Rattle.label_rules.specs.declared.table.ProofTable.{ProofTable}
@@ -7,16 +7,21 @@ use Rattle.label_rules.specs.Labels.{Setting}
 use Rattle.safe_bound.specs.Bounds.{limit_of}
 use Rattle.proof_rules.specs.ListWalls.{IsDemandedTree, IsUnfinished}
 use Rattle.proof_rules.specs.PrefixTrees.{Step}
+use Rattle.proof_rules.specs.Proofs.{Proof}
 use Rattle.route_labels.specs.declared.field.Field.{Field}
 use Rattle.route_labels.specs.Meaning.{setting_of}
 use Rattle.certificate.specs.declared.cert.Trie.{Trie}
 use Rattle.cert_rules.specs.Meaning.{steps_of}
 use Rattle.walk_list.specs.declared.task.Task.{Task}
 use Rattle.walk_list.specs.Growing.{IsWhole}
-use Rattle.walk_list.specs.Listings.{AreInOrder, ListingFits, table_at, trie_at}
+use Rattle.walk_list.specs.Listings.{AreInOrder, IsProofWith, ListingFits, table_at, trie_at}
 
 abbrev pub TaskFits : Task → Type 0
 TaskFits t = ListingFits t.model.now t.spot.now t.priced.now t.near.now t.cuts.now t.y.now t.tables.now
+
+-- a proof has the parts of a task
+abbrev pub IsProofOf : Task → Proof → Type 0
+IsProofOf t = IsProofWith t.model.now t.spot.now t.priced.now t.near.now t.cuts.now t.y.now t.tables.now
 
 -- what labels of a graph are made from, what they see, the labels of rests, and the limit
 abbrev pub field_in : Task → ℕ → Field
@@ -48,10 +53,11 @@ pub record AreWholeBelow (t : Task) (limit room n : ℕ) (tries : List Trie) : T
   pub each : EachBelow n (InGraph IsWhole t tries)
   pub lines : lines_in tries + room ≡ limit
 
--- the trees of all graphs are whole
-pub record AreAllWhole (t : Task) (tries : List Trie) : Type 0 where
+-- the trees of all graphs are whole, and have at most so many lines
+pub record AreAllWhole (t : Task) (limit : ℕ) (tries : List Trie) : Type 0 where
   pub order : AreInOrder (length t.model.now.graphs) tries
   pub each : EachBelow (length t.model.now.graphs) (InGraph IsWhole t tries)
+  pub lines : lines_in tries ≤ limit
 
 -- the trees have so many lines, each over a demanded arc, and in one of them a demanded arc leads to no child
 pub record AreFull (t : Task) (limit n : ℕ) (tries : List Trie) : Type 0 where

@@ -2,7 +2,7 @@
 
 ghost use Rattle.std.specs.Prelude.{◌≤◌, IfOk, OnOk, length};
 ghost use Rattle.std.specs.Bool.{OnTrue, OnFalse};
-ghost use Rattle.walk_list.specs.Listings.{AreComplete, AreCutOff, IsProofWith, ListingFits, MatchListed};
+ghost use Rattle.walk_list.specs.Listings.{AreComplete, AreCutOff, AreFew, IsProofWith, ListingFits, MatchListed};
 ghost use Rattle.walk_list.specs.Tasks.{AreAllWhole, AreFull, TaskFits};
 
 use crate::task::{Task, leasts_of, tree_of};
@@ -44,9 +44,10 @@ pub fn list_walks(
     limit: u32,
 ) -> Listed
     requires { ListingFits model.now spot.now priced.now near.now cuts.now y.now tables.now }
-    ensures { MatchListed result
+    ensures trees { MatchListed result
         (AreComplete model.now spot.now (IsProofWith model.now spot.now priced.now near.now cuts.now y.now tables.now) z)
         (AreCutOff model.now spot.now (IsProofWith model.now spot.now priced.now near.now cuts.now y.now tables.now) z limit) }
+    ensures few { MatchListed result (AreFew limit) (AreFew limit) }
 {
     let task = Task {
         model,
@@ -73,7 +74,7 @@ pub fn list_walks(
 /// The trees of all graphs, and whether they are whole.
 fn list_all(alloc: Global, task: &Task, limit: u32) -> Result<(List<Trie>, bool), NoMemory>
     requires { TaskFits task.now }
-    ensures whole { IfOk result (λ made. OnTrue made.1 (AreAllWhole task.now made.0)) }
+    ensures whole { IfOk result (λ made. OnTrue made.1 (AreAllWhole task.now limit made.0)) }
     ensures full { IfOk result (λ made. OnFalse made.1 (AreFull task.now limit (length task.now.model.now.graphs) made.0)) }
 {
     let leasts = leasts_of(alloc, task.tables)?;

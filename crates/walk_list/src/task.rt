@@ -33,7 +33,7 @@ pub(crate) struct Task<'a> {
 }
 
 /// What the labels of a graph are made from.
-fn field_of<'a>(task: &Task<'a>, graph: u32) -> Field<'a>
+pub(crate) fn field_of<'a>(task: &Task<'a>, graph: u32) -> Field<'a>
     requires task { TaskFits task.now }
     requires graph { graph < length task.now.model.now.graphs }
     ensures field { result ≡ field_in task.now graph }

@@ -6,8 +6,8 @@ use Rattle.walk_list.specs.Listings.{table_at}
 use Rattle.listing_tests.specs.Rows.{field_in}
 use Rattle.listing_tests.proofs.listings.listed.Goals as goal
 
-pub list_walks-requires : goal.list_walks-requires
-list_walks-requires c =
+pub with_walks-requires : goal.with_walks-requires
+with_walks-requires c =
     let r = c.args.row.now in
     let fits = c.requires in
     let have = c.have_rests.ensures c.if-not-have_rests.false in

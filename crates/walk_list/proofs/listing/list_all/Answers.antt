@@ -1,7 +1,7 @@
 use Rattle.std.proofs.Common.{ℕ, ◌+◌, ◌-◌, [], ◌∷◌, ◌++◌, refl, sym, subst}
 use Rattle.certificate.specs.declared.cert.Trie.{Trie}
 use Rattle.walk_list.specs.Tasks.{AreFull, AreWholeBelow}
-use Rattle.walk_list.proofs.TaskLemmas.{full_here, whole_more}
+use Rattle.walk_list.proofs.TaskLemmas.{all_whole, full_here, whole_more}
 use Rattle.walk_list.proofs.listing.list_all.Goals as goal
 
 pub fill-requires-clause-full : goal.fill-requires-clause-full

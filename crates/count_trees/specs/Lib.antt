@@ -1,0 +1,4 @@
+pub mod Costs
+pub mod Points
+pub mod Growth
+pub mod Rounds

@@ -1,0 +1,4 @@
+pub mod Open
+pub mod Cuts
+pub mod Slots
+pub mod Laws
