@@ -1,0 +1,4 @@
+pub mod Passed
+pub mod Steps
+pub mod Trees
+pub mod Told
