@@ -15,13 +15,21 @@ use Rattle.certificate.specs.declared.cert.Cert.{Cert}
 use Rattle.certificate.specs.declared.cert.Goal.{Goal}
 use Rattle.cert_check.specs.declared.fault.CheckFault.{CheckFault}
 use Rattle.cert_check.specs.Verdicts.{IsAccepted}
+use Rattle.certificate.specs.declared.cert.Node.{Node}
+use Rattle.place_nodes.specs.declared.wall.LabelWall.{LabelWall}
+use Rattle.solve_run.specs.declared.outcome.Best.{Best}
+use Rattle.solve_run.specs.declared.outcome.Limits.{Limits}
+use Rattle.command_words.specs.declared.command.Command.{Command}
+use Rattle.command_words.specs.declared.command.Command.TheVariants.{Solve, Print, Eval, Check}
+use Rattle.command_words.specs.Commands.{Takes}
+use Rattle.command_words.proofs.CommandLemmas.{one_command}
 use Rattle.vrp_cli.specs.declared.limits.TheConstants.{MAX_INPUT}
-use Rattle.vrp_cli.specs.declared.command.Command.{Command}
-use Rattle.vrp_cli.specs.declared.command.Command.TheVariants.{Solve, Print, Eval, Check}
-use Rattle.vrp_cli.specs.Commands.{Takes, model_part, second_part}
-use Rattle.vrp_cli.specs.Headline.{TellsLeast, SpellsInfeasible, TellsModel, SpellsSolution, ArePathsRefusedFor, IsPlanRefusedFor, SpellsProved, IsNoCertificate, IsCertificateRefusedFor, Answers, optimal, infeasible, printed, fine, words_refused, model_refused, paths_refused, plan_refused, accepted, no_certificate, certificate_refused, read_failed, no_memory, too_long, Runs, Stream}
+use Rattle.vrp_cli.specs.declared.status.Status.{Status}
+use Rattle.vrp_cli.specs.Commands.{model_part, second_part}
+use Rattle.vrp_cli.specs.Solved.{StopsAtLabels, StopsAtNodes, TellsLeast, TellsNone}
+use Rattle.vrp_cli.specs.Headline.{TellsModel, SpellsSolution, ArePathsRefusedFor, IsPlanRefusedFor, SpellsProved, IsNoCertificate, IsCertificateRefusedFor, Answers, optimal, infeasible, label_limit, node_limit, printed, fine, words_refused, model_refused, paths_refused, plan_refused, accepted, no_certificate, certificate_refused, read_failed, no_memory, too_long, Runs, Stream}
 use Rattle.vrp_cli.specs.Endings.{IsDueOn, IsDue}
-use Rattle.vrp_cli.proofs.RunLemmas.{on_input, of_run, one_command}
+use Rattle.vrp_cli.proofs.RunLemmas.{on_input, of_run}
 
 long_input : (command : Command) (a b : Option (List ℕ)) (end : ℕ) → TookExactly a b (MAX_INPUT + 1) → end ≡ 10 → IfSome a (IsDue command end)
 long_input command None b end took is = tt
@@ -41,13 +49,21 @@ spelled_due command end input m few spelled due = (
   λ n short other. subst (λ (x : ModelParts). IsDueOn command x (second_part input) end) (spells_one (model_part command input) m n spelled other) due,
 )
 
-optimal_due : (end : ℕ) (text input : List ℕ) → end ≡ 0 → length input ≤ MAX_INPUT → TellsLeast text input → IsDue Solve end input
-optimal_due end text input is few p =
-    spelled_due Solve end input p.model few p.spelled (λ none. absurd (none p.plan p.least.solution), λ plan solves. is)
+optimal_due : (limits : Limits) (end : ℕ) (text input : List ℕ) → end ≡ 0 → length input ≤ MAX_INPUT → TellsLeast text input → IsDue (Solve limits) end input
+optimal_due limits end text input is few p =
+    spelled_due (Solve limits) end input p.model few p.spelled (λ none. absurd (none p.plan p.least.solution), λ plan solves. inl is)
 
-infeasible_due : (end : ℕ) (input : List ℕ) → end ≡ 1 → length input ≤ MAX_INPUT → SpellsInfeasible input → IsDue Solve end input
-infeasible_due end input is few p =
-    spelled_due Solve end input p.model few p.spelled (λ none. is, λ plan solves. absurd (p.none plan solves))
+infeasible_due : (limits : Limits) (end : ℕ) (text input : List ℕ) → end ≡ 1 → length input ≤ MAX_INPUT → TellsNone text input → IsDue (Solve limits) end input
+infeasible_due limits end text input is few p =
+    spelled_due (Solve limits) end input p.model few p.spelled (λ none. inl is, λ plan solves. absurd (p.none plan solves))
+
+labels_due : (limits : Limits) (wall : LabelWall) (best : Option Best) (bound : ℤ) (end : ℕ) (input : List ℕ) → end ≡ 5 → length input ≤ MAX_INPUT → StopsAtLabels limits.labels wall best bound input → IsDue (Solve limits) end input
+labels_due limits wall best bound end input is few p =
+    spelled_due (Solve limits) end input p.model few p.spelled (λ none. inr (inl (is, p.passes)), λ plan solves. inr (inl (is, p.passes)))
+
+nodes_due : (limits : Limits) (nodes : List Node) (best : Option Best) (bound : ℤ) (end : ℕ) (input : List ℕ) → end ≡ 6 → length input ≤ MAX_INPUT → StopsAtNodes limits nodes best bound input → IsDue (Solve limits) end input
+nodes_due limits nodes best bound end input is few p =
+    spelled_due (Solve limits) end input p.model few p.spelled (λ none. inr (inr (is, p.passes)), λ plan solves. inr (inr (is, p.passes)))
 
 printed_due : (end : ℕ) (text input : List ℕ) → end ≡ 0 → length input ≤ MAX_INPUT → TellsModel text input → IsDue Print end input
 printed_due end text input is few p = spelled_due Print end input p.model few p.spelled is
@@ -107,26 +123,33 @@ refused_due command end fault input is few p = (
   λ m short spelled. absurd (p.1 m spelled),
 )
 
-pub due_of : {words : List (List ℕ)} {a b w v : Stream} {end : ℕ} → Runs words a b w v end → (command : Command) → Takes words command → (Rose a.faults b.faults → ⊥) → (Rose w.faults v.faults → ⊥) → (end ≡ 9) ⊎ IfSome a.bytes (IsDue command end)
+pub due_of : {words : List (List ℕ)} {a b w v : Stream} {end : Status} → Runs words a b w v end → (command : Command) → Takes words command → (Rose a.faults b.faults → ⊥) → (Rose w.faults v.faults → ⊥)
+    → (end.number ≡ 9) ⊎ IfSome a.bytes (IsDue command end.number)
 due_of {words} {a} {b} {w} {v} {end} run command taken no_read no_write =
-    of_run ((end ≡ 9) ⊎ IfSome a.bytes (IsDue command end)) run (λ status text answers is wrote. from status text answers is) (λ is rose. absurd (no_write rose))
+    of_run ((end.number ≡ 9) ⊎ IfSome a.bytes (IsDue command end.number)) run (λ answered text answers is wrote. from answered text answers (ap (λ (s : Status). s.number) is)) (λ is rose. absurd (no_write rose))
   where
     -- what is due for the command that the answer names
-    of_command : (named : Command) → Takes words named → IfSome a.bytes (IsDue named end) → (end ≡ 9) ⊎ IfSome a.bytes (IsDue command end)
-    of_command named known due = inr (subst (λ (c : Command). IfSome a.bytes (IsDue c end)) (one_command words named command known taken) due)
+    of_command : (named : Command) → Takes words named → IfSome a.bytes (IsDue named end.number) → (end.number ≡ 9) ⊎ IfSome a.bytes (IsDue command end.number)
+    of_command named known due = inr (subst (λ (c : Command). IfSome a.bytes (IsDue c end.number)) (one_command words named command known taken) due)
 
-    from : (status : ℕ) (text : List ℕ) → Answers words a b status text → end ≡ status → (end ≡ 9) ⊎ IfSome a.bytes (IsDue command end)
-    from status text (optimal told known whole) is = of_command Solve known (on_input (IsDue Solve end) whole (λ input few p. optimal_due end told input is few p))
-    from status text (infeasible known whole) is = of_command Solve known (on_input (IsDue Solve end) whole (λ input few p. infeasible_due end input is few p))
-    from status text (printed told known whole) is = of_command Print known (on_input (IsDue Print end) whole (λ input few p. printed_due end told input is few p))
-    from status text (fine cost known whole) is = of_command Eval known (on_input (IsDue Eval end) whole (λ input few p. fine_due end cost input is few p))
-    from status text (words_refused untaken) is = absurd (untaken (command, taken))
-    from status text (model_refused named fault known whole) is = of_command named known (on_input (IsDue named end) whole (λ input few p. refused_due named end fault input is few p))
-    from status text (paths_refused fault known whole) is = of_command Eval known (on_input (IsDue Eval end) whole (λ input few p. paths_due end fault input is few p))
-    from status text (plan_refused verdict known whole) is = of_command Eval known (on_input (IsDue Eval end) whole (λ input few p. plan_due end verdict input is few p))
-    from status text (accepted claim known whole) is = of_command Check known (on_input (IsDue Check end) whole (λ input few p. accepted_due end claim input is few p))
-    from status text (no_certificate fault known whole) is = of_command Check known (on_input (IsDue Check end) whole (λ input few p. no_certificate_due end fault input is few p))
-    from status text (certificate_refused fault known whole) is = of_command Check known (on_input (IsDue Check end) whole (λ input few p. certificate_due end fault input is few p))
-    from status text (read_failed known rose) is = absurd (no_read rose)
-    from status text (no_memory known took kept) is = inl is
-    from status text (too_long known took kept) is = inr (long_input command a.bytes b.bytes end took is)
+    from : (answered : Status) (text : List ℕ) → Answers words a b answered text → end.number ≡ answered.number → (end.number ≡ 9) ⊎ IfSome a.bytes (IsDue command end.number)
+    from answered text (optimal limits told known whole) is =
+        of_command (Solve limits) known (on_input (IsDue (Solve limits) end.number) whole (λ input few p. optimal_due limits end.number told input is few p))
+    from answered text (infeasible limits told known whole) is =
+        of_command (Solve limits) known (on_input (IsDue (Solve limits) end.number) whole (λ input few p. infeasible_due limits end.number told input is few p))
+    from answered text (label_limit limits wall best bound known whole) is =
+        of_command (Solve limits) known (on_input (IsDue (Solve limits) end.number) whole (λ input few p. labels_due limits wall best bound end.number input is few p))
+    from answered text (node_limit limits nodes best bound known whole) is =
+        of_command (Solve limits) known (on_input (IsDue (Solve limits) end.number) whole (λ input few p. nodes_due limits nodes best bound end.number input is few p))
+    from answered text (printed told known whole) is = of_command Print known (on_input (IsDue Print end.number) whole (λ input few p. printed_due end.number told input is few p))
+    from answered text (fine cost known whole) is = of_command Eval known (on_input (IsDue Eval end.number) whole (λ input few p. fine_due end.number cost input is few p))
+    from answered text (words_refused untaken) is = absurd (untaken (command, taken))
+    from answered text (model_refused named fault known whole) is = of_command named known (on_input (IsDue named end.number) whole (λ input few p. refused_due named end.number fault input is few p))
+    from answered text (paths_refused fault known whole) is = of_command Eval known (on_input (IsDue Eval end.number) whole (λ input few p. paths_due end.number fault input is few p))
+    from answered text (plan_refused verdict known whole) is = of_command Eval known (on_input (IsDue Eval end.number) whole (λ input few p. plan_due end.number verdict input is few p))
+    from answered text (accepted claim known whole) is = of_command Check known (on_input (IsDue Check end.number) whole (λ input few p. accepted_due end.number claim input is few p))
+    from answered text (no_certificate fault known whole) is = of_command Check known (on_input (IsDue Check end.number) whole (λ input few p. no_certificate_due end.number fault input is few p))
+    from answered text (certificate_refused fault known whole) is = of_command Check known (on_input (IsDue Check end.number) whole (λ input few p. certificate_due end.number fault input is few p))
+    from answered text (read_failed known rose) is = absurd (no_read rose)
+    from answered text (no_memory known took kept) is = inl is
+    from answered text (too_long known took kept) is = inr (long_input command a.bytes b.bytes end.number took is)

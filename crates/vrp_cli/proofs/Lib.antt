@@ -1,12 +1,4 @@
-pub mod AheadLemmas
-pub mod PartialLemmas
-pub mod ListedLemmas
-pub mod Results
-pub mod CheckLemmas
-pub mod PlanLemmas
-pub mod LimitLemmas
-pub mod ChoiceLemmas
-pub mod ExchangeLemmas
+pub mod ToldLemmas
 pub mod EndingLemmas
 pub mod JudgeLemmas
 pub mod RunLemmas

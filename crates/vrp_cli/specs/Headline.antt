@@ -7,9 +7,8 @@ use Rattle.route_model.specs.declared.plan.Plan.{Plan}
 use Rattle.route_model.specs.declared.plan.Verdict.{Verdict}
 use Rattle.route_model.specs.Parts.{ModelParts}
 use Rattle.route_model.specs.Quantities.{cost_of}
-use Rattle.route_model.specs.Solution.{IsSolution, IsLeast, HasNoSolution}
+use Rattle.route_model.specs.Solution.{IsSolution}
 use Rattle.route_model.specs.Verdicts.{IsVerdict}
-use Rattle.route_model.specs.Tidy.{IsTidy}
 use Rattle.line_text.specs.declared.fault.TextFault.{TextFault}
 use Rattle.model_text.specs.ModelText.{model_text}
 use Rattle.model_text.specs.Spelling.{Spells}
@@ -19,39 +18,26 @@ use Rattle.model_text.specs.PathFault.{IsFirstPathFault}
 use Rattle.proof_rules.specs.Validity.{Holds}
 use Rattle.certificate.specs.declared.cert.Cert.{Cert}
 use Rattle.certificate.specs.declared.cert.Goal.{Goal}
-use Rattle.certificate.specs.Spelling.{SpellsCert, SpellsNoCert}
+use Rattle.certificate.specs.declared.cert.Node.{Node}
+use Rattle.certificate.specs.Spelling.{SpellsNoCert}
 use Rattle.certificate.specs.Reading.{IsFirstCertFault}
 use Rattle.cert_rules.specs.Meaning.{claim_of}
 use Rattle.cert_check.specs.declared.fault.CheckFault.{CheckFault}
 use Rattle.cert_check.specs.Verdicts.{IsAccepted, IsFirstFault}
-use Rattle.vrp_cli.specs.declared.command.Command.{Command}
-use Rattle.vrp_cli.specs.declared.command.Command.TheVariants.{Solve, Print, Eval, Check}
+use Rattle.place_nodes.specs.declared.wall.LabelWall.{LabelWall}
+use Rattle.solve_run.specs.declared.outcome.Best.{Best}
+use Rattle.solve_run.specs.declared.outcome.Limits.{Limits}
+use Rattle.command_words.specs.declared.command.Command.{Command}
+use Rattle.command_words.specs.declared.command.Command.TheVariants.{Solve, Print, Eval, Check}
+use Rattle.command_words.specs.Commands.{Takes, AreTaken}
 use Rattle.vrp_cli.specs.declared.limits.TheConstants.{MAX_INPUT}
-use Rattle.vrp_cli.specs.Commands.{Takes, AreTaken, model_part, second_part}
-use Rattle.vrp_cli.specs.Texts.{optimal_text, fine_text, refused_model_text}
+use Rattle.vrp_cli.specs.declared.status.Kept.TheVariants.{Nothing, Label, Nodes}
+use Rattle.vrp_cli.specs.declared.status.Status.{Status}
+use Rattle.vrp_cli.specs.Commands.{model_part, second_part}
+use Rattle.vrp_cli.specs.Texts.{fine_text, limit_text, refused_model_text}
 use Rattle.vrp_cli.specs.Texts.{refused_paths_text, refused_plan_text}
 use Rattle.vrp_cli.specs.Texts.{accepted_text, no_certificate_text, refused_certificate_text}
-
--- a tidy plan that is a solution, of which none costs less, and its cost
-pub record IsLeastPlan (m : ModelParts) (cost : ℤ) (plan : Plan) : Type 0 where
-  pub least : IsLeast m plan
-  pub tidy : IsTidy plan
-  pub costs : cost ≡ cost_of m plan
-
--- the input spells a model, and the text tells the cost and the paths of a tidy solution; none costs less
-pub record TellsLeast (text input : List ℕ) : Type 0 where
-  pub model : ModelParts
-  pub spelled : Spells input model
-  pub plan : Plan
-  pub least : IsLeast model plan
-  pub tidy : IsTidy plan
-  pub told : text ≡ optimal_text (cost_of model plan) plan
-
--- the input spells a model that has no solution
-pub record SpellsInfeasible (input : List ℕ) : Type 0 where
-  pub model : ModelParts
-  pub spelled : Spells input model
-  pub none : HasNoSolution model
+use Rattle.vrp_cli.specs.Solved.{SpellsOnly, StopsAtLabels, StopsAtNodes, TellsLeast, TellsNone}
 
 -- the input spells a model, and the text is the printed text of that model
 pub record TellsModel (text input : List ℕ) : Type 0 where
@@ -83,11 +69,6 @@ pub record IsPlanRefusedFor (verdict : Verdict) (input : List ℕ) : Type 0 wher
   pub planned : SpellsPlan (second_part input) plan
   pub unsolved : ¬ (IsSolution model plan)
   pub first : IsVerdict model plan verdict
-
--- the text is one of this certificate, and of no other
-pub record SpellsOnly (m : ModelParts) (text : List ℕ) (cert : Cert) : Type 0 where
-  pub spelled : SpellsCert m text cert
-  pub only : (other : Cert) → SpellsCert m text other → other ≡ cert
 
 -- the input of `check` spells a model, and behind it a certificate with this claim that is accepted; and what it claims holds
 pub record SpellsProved (claim : Goal) (input : List ℕ) : Type 0 where
@@ -136,48 +117,58 @@ pub record ReadWhole (before after : Stream) (P : List ℕ → Type 0) : Type 0 
   pub kept : NoneCame before after
   pub input : IfSome before.bytes (λ input. (length input ≤ MAX_INPUT) × P input)
 
+-- a status that keeps nothing
+abbrev pub status_alone : ℕ → Status
+status_alone number = record { number = number; kept = Nothing }
+
 -- an answer, as a status and a text, to words and to what was read of a source: one rule for each ending
-pub data Answers (words : List (List ℕ)) (before after : Stream) : ℕ → List ℕ → Type 0 where
-  optimal : (text : List ℕ) → Takes words Solve → ReadWhole before after (TellsLeast text)
-      → Answers words before after 0 text
-  infeasible : Takes words Solve → ReadWhole before after SpellsInfeasible
-      → Answers words before after 1 (codes "infeasible\n")
+pub data Answers (words : List (List ℕ)) (before after : Stream) : Status → List ℕ → Type 0 where
+  optimal : (limits : Limits) (text : List ℕ) → Takes words (Solve limits) → ReadWhole before after (TellsLeast text)
+      → Answers words before after (status_alone 0) text
+  infeasible : (limits : Limits) (text : List ℕ) → Takes words (Solve limits) → ReadWhole before after (TellsNone text)
+      → Answers words before after (status_alone 1) text
+  label_limit : (limits : Limits) (wall : LabelWall) (best : Option Best) (bound : ℤ) → Takes words (Solve limits)
+      → ReadWhole before after (StopsAtLabels limits.labels wall best bound)
+      → Answers words before after (record { number = 5; kept = Label wall }) (limit_text (codes "label") limits.labels bound best)
+  node_limit : (limits : Limits) (nodes : List Node) (best : Option Best) (bound : ℤ) → Takes words (Solve limits)
+      → ReadWhole before after (StopsAtNodes limits nodes best bound)
+      → Answers words before after (record { number = 6; kept = Nodes nodes best }) (limit_text (codes "node") limits.nodes bound best)
   printed : (text : List ℕ) → Takes words Print → ReadWhole before after (TellsModel text)
-      → Answers words before after 0 text
+      → Answers words before after (status_alone 0) text
   fine : (cost : ℤ) → Takes words Eval → ReadWhole before after (SpellsSolution cost)
-      → Answers words before after 0 (fine_text cost)
+      → Answers words before after (status_alone 0) (fine_text cost)
   words_refused : (AreTaken words → ⊥)
-      → Answers words before after 2 (codes "refused words\n")
+      → Answers words before after (status_alone 2) (codes "refused words\n")
   model_refused : (command : Command) (fault : TextFault) → Takes words command
       → ReadWhole before after (λ input. IsRefusedFor fault (model_part command input))
-      → Answers words before after 3 (refused_model_text fault)
+      → Answers words before after (status_alone 3) (refused_model_text fault)
   paths_refused : (fault : TextFault) → Takes words Eval → ReadWhole before after (ArePathsRefusedFor fault)
-      → Answers words before after 4 (refused_paths_text fault)
+      → Answers words before after (status_alone 4) (refused_paths_text fault)
   plan_refused : (verdict : Verdict) → Takes words Eval → ReadWhole before after (IsPlanRefusedFor verdict)
-      → Answers words before after 4 (refused_plan_text verdict)
+      → Answers words before after (status_alone 4) (refused_plan_text verdict)
   accepted : (claim : Goal) → Takes words Check → ReadWhole before after (SpellsProved claim)
-      → Answers words before after 0 (accepted_text claim)
+      → Answers words before after (status_alone 0) (accepted_text claim)
   no_certificate : (fault : TextFault) → Takes words Check → ReadWhole before after (IsNoCertificate fault)
-      → Answers words before after 4 (no_certificate_text fault)
+      → Answers words before after (status_alone 4) (no_certificate_text fault)
   certificate_refused : (fault : CheckFault) → Takes words Check → ReadWhole before after (IsCertificateRefusedFor fault)
-      → Answers words before after 4 (refused_certificate_text fault)
+      → Answers words before after (status_alone 4) (refused_certificate_text fault)
   read_failed : AreTaken words → Rose before.faults after.faults
-      → Answers words before after 7 (codes "fault read\n")
+      → Answers words before after (status_alone 7) (codes "fault read\n")
   no_memory : AreTaken words → TookAtMost before.bytes after.bytes MAX_INPUT → NoneCame before after
-      → Answers words before after 9 (codes "fault memory\n")
+      → Answers words before after (status_alone 9) (codes "fault memory\n")
   too_long : AreTaken words → TookExactly before.bytes after.bytes (MAX_INPUT + 1) → NoneCame before after
-      → Answers words before after 10 (codes "refused input too long\n")
+      → Answers words before after (status_alone 10) (codes "refused input too long\n")
 
 -- the whole text was written without a fault, and the run ended with its status; or a write failed after
 -- a prefix of it
-abbrev pub Tells : Stream → Stream → ℕ → List ℕ → ℕ → Type 0
-Tells before after status text end =
-    ((end ≡ status) × Appends before.bytes after.bytes text × NoneCame before after)
-    ⊎ ((end ≡ 8) × Rose before.faults after.faults × AppendedPrefix before.bytes after.bytes text)
+abbrev pub Tells : Stream → Stream → Status → List ℕ → Status → Type 0
+Tells before after answered text end =
+    ((end ≡ answered) × Appends before.bytes after.bytes text × NoneCame before after)
+    ⊎ ((end ≡ status_alone 8) × Rose before.faults after.faults × AppendedPrefix before.bytes after.bytes text)
 
 -- a run: an answer to the words and the source, and how it was told to the sink
-pub record Runs (words : List (List ℕ)) (source source_new sink sink_new : Stream) (end : ℕ) : Type 0 where
-  pub status : ℕ
+pub record Runs (words : List (List ℕ)) (source source_new sink sink_new : Stream) (end : Status) : Type 0 where
+  pub answered : Status
   pub text : List ℕ
-  pub answers : Answers words source source_new status text
-  pub tells : Tells sink sink_new status text end
+  pub answers : Answers words source source_new answered text
+  pub tells : Tells sink sink_new answered text end

@@ -1,11 +1,6 @@
 pub mod Commands
 pub mod Texts
+pub mod Solved
 pub mod Headline
 pub mod Endings
 pub mod Answer
-pub mod Ahead
-pub mod Partial
-pub mod Listed
-pub mod Totals
-pub mod Limits
-pub mod Selection

@@ -1,8 +1,7 @@
 -- The texts of answers.
-use Rattle.std.specs.Prelude.{ℕ, ℤ, List, [], ◌∷◌, ◌++◌, codes}
+use Rattle.std.specs.Prelude.{ℕ, ℤ, Option, None, Some, List, [], ◌∷◌, ◌++◌, codes}
 use Rattle.std.specs.List.{flat_map}
 use Rattle.std.specs.Fmt.{decimal, signed_decimal}
-use Rattle.route_model.specs.declared.plan.Plan.{Plan}
 use Rattle.route_model.specs.declared.plan.Verdict.{Verdict}
 use Rattle.route_model.specs.declared.plan.Verdict.TheVariants.{Fine, NotWalk, Count, Packing, VarBox, RowBox}
 use Rattle.line_text.specs.declared.fault.TextFault.{TextFault}
@@ -13,14 +12,21 @@ use Rattle.cert_check.specs.Kinds.{check_name, check_number}
 use Rattle.line_text.specs.Faults.{kind_number, kind_name}
 use Rattle.line_text.specs.Spelling.{line}
 use Rattle.model_text.specs.PathText.{path_line}
+use Rattle.solve_run.specs.declared.outcome.Best.{Best}
 
 -- a word and a cost
 abbrev pub cost_line : List ℕ → ℤ → List ℕ
 cost_line word cost = line word (signed_decimal cost ∷ [])
 
--- `optimal COST`, then the lines of the paths
-abbrev pub optimal_text : ℤ → Plan → List ℕ
-optimal_text cost plan = cost_line (codes "optimal") cost ++ flat_map path_line plan.paths
+-- the best plan that was found: `incumbent COST` and the lines of its paths, or `incumbent none`
+abbrev pub incumbent_text : Option Best → List ℕ
+incumbent_text None = line (codes "incumbent") (codes "none" ∷ [])
+incumbent_text (Some best) = cost_line (codes "incumbent") best.cost ++ flat_map path_line best.plan.paths
+
+-- `KIND limit NUMBER`, `bound BOUND`, then the best plan
+abbrev pub limit_text : List ℕ → ℕ → ℤ → Option Best → List ℕ
+limit_text kind limit bound best =
+    line kind (codes "limit" ∷ decimal limit ∷ []) ++ (cost_line (codes "bound") bound ++ incumbent_text best)
 
 -- `fine COST`
 abbrev pub fine_text : ℤ → List ℕ

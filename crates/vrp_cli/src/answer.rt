@@ -1,16 +1,25 @@
 ghost use Rattle.std.specs.Prelude.{◌≡◌};
 ghost use Rattle.vrp_cli.specs.Answer.{status_of, text_of};
+ghost use Rattle.vrp_cli.specs.Headline.{status_alone};
 
+use crate::status::{Kept, Status};
+use certificate::Node;
 use model_text::LineWriter;
 use path_graph::List;
+use place_nodes::LabelWall;
+use solve_run::Best;
 
 /// What a run answers.
 #[derive(Drop)]
 pub(crate) enum Answer {
-    /// A least plan, by its text.
-    Optimal(LineWriter),
-    /// There is no solution.
-    Infeasible,
+    /// A least plan, by the text of its certificate.
+    Optimal(List<u8>),
+    /// There is no solution, by the text of the certificate.
+    Infeasible(List<u8>),
+    /// The limit of labels, by its text, and why they were not enough.
+    LabelLimit(LineWriter, LabelWall),
+    /// The limit of nodes, by its text, with the nodes and the best plan.
+    NodeLimit(LineWriter, List<Node>, Option<Best>),
     /// The printed text of a model.
     Printed(List<u8>),
     /// A plan is a solution, by the text of its cost.
@@ -35,25 +44,29 @@ pub(crate) enum Answer {
 }
 
 impl Answer {
-    /// The status that the program ends with, if the answer is written.
-    pub(crate) fn status(&self) -> u8
-        ensures { result ≡ status_of self.now }
+    /// The status that a run ends with, if the answer is written.
+    pub(crate) fn status(self) -> Status
+        ensures { result ≡ status_of self }
     {
         match self {
-            Answer::Optimal(_) => 0,
-            Answer::Infeasible => 1,
-            Answer::Printed(_) => 0,
-            Answer::Fine(_) => 0,
-            Answer::Accepted(_) => 0,
-            Answer::RefusedWords => 2,
-            Answer::RefusedModel(_) => 3,
-            Answer::RefusedPaths(_) => 4,
-            Answer::RefusedPlan(_) => 4,
-            Answer::NoCertificate(_) => 4,
-            Answer::RefusedCertificate(_) => 4,
-            Answer::FailedRead => 7,
-            Answer::OutOfMemory => 9,
-            Answer::TooLong => 10,
+            Answer::LabelLimit(_, wall) => Status {
+                number: 5,
+                kept: Kept::Label(wall),
+            },
+            Answer::NodeLimit(_, nodes, best) => Status {
+                number: 6,
+                kept: Kept::Nodes(nodes, best),
+            },
+            Answer::Optimal(_) | Answer::Printed(_) | Answer::Fine(_) | Answer::Accepted(_) =>
+                status_alone(0),
+            Answer::Infeasible(_) => status_alone(1),
+            Answer::RefusedWords => status_alone(2),
+            Answer::RefusedModel(_) => status_alone(3),
+            Answer::RefusedPaths(_) | Answer::RefusedPlan(_) => status_alone(4),
+            Answer::NoCertificate(_) | Answer::RefusedCertificate(_) => status_alone(4),
+            Answer::FailedRead => status_alone(7),
+            Answer::OutOfMemory => status_alone(9),
+            Answer::TooLong => status_alone(10),
         }
     }
 
@@ -63,7 +76,9 @@ impl Answer {
     {
         match self {
             Answer::Optimal(text) => text.as_slice(),
-            Answer::Infeasible => b"infeasible\n",
+            Answer::Infeasible(text) => text.as_slice(),
+            Answer::LabelLimit(text, _) => text.as_slice(),
+            Answer::NodeLimit(text, _, _) => text.as_slice(),
             Answer::Printed(text) => text.as_slice(),
             Answer::Fine(text) => text.as_slice(),
             Answer::Accepted(text) => text.as_slice(),
@@ -77,5 +92,15 @@ impl Answer {
             Answer::OutOfMemory => b"fault memory\n",
             Answer::TooLong => b"refused input too long\n",
         }
+    }
+}
+
+/// A status that keeps nothing.
+pub(crate) fn status_alone(number: u8) -> Status
+    ensures { result ≡ status_alone number }
+{
+    Status {
+        number,
+        kept: Kept::Nothing,
     }
 }

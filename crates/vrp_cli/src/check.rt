@@ -3,10 +3,10 @@ ghost use Rattle.certificate.specs.CertFits.{CertFits};
 ghost use Rattle.vrp_cli.specs.Answer.{AnswersCertificate, AnswersClaim, AnswersInput};
 
 use crate::answer::Answer;
-use crate::command::Command;
 use crate::texts::{accepted_line, check_fault_line, fault_line};
 use cert_check::{CheckError, check as check_cert};
 use certificate::{Cert, read_cert};
+use command_words::Command;
 use model_text::{ReadError, model_end, read_model};
 use path_graph::NoMemory;
 use route_model::Model;

@@ -4,8 +4,8 @@ ghost use Rattle.vrp_cli.specs.Texts.{fine_text};
 ghost use Rattle.vrp_cli.specs.Answer.{AnswersInput, AnswersPaths, AnswersPlan};
 
 use crate::answer::Answer;
-use crate::command::Command;
 use crate::texts::{fault_line, plan_fault_line, write_cost};
+use command_words::Command;
 use model_text::{LineWriter, ReadError, model_end, read_model, read_plan};
 use path_graph::NoMemory;
 use route_model::{Model, Plan, Verdict, judge};

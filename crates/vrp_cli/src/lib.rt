@@ -1,19 +1,18 @@
-//! The program's one call: it reads a model, does what its command says, and writes the answer. `solve` finds a least
-//! plan by a plain search, `print` prints the model, `eval` judges a plan, and `check` a certificate. A second call takes a model that is built.
+//! The program's one call: it reads a model, does what its command says, and writes the answer. `solve` finds a least plan and
+//! writes its certificate, `print` prints the model, `eval` judges a plan, and `check` a certificate.
 #![tactic(auto)]
 
 mod answer;
 mod check;
-mod command;
 mod eval;
 mod limits;
 mod print;
 mod run;
-mod search;
 mod solve;
+mod status;
 mod texts;
 
-pub use command::Command;
+pub use command_words::Command;
 pub use limits::MAX_INPUT;
-pub use run::{Status, run_vrp};
-pub use search::{Best, least_plan};
+pub use run::run_vrp;
+pub use status::{Kept, Status};

@@ -2,8 +2,8 @@ ghost use Rattle.std.specs.Prelude.{◌<◌, ◌^◌, ◌-◌, length, IfOk};
 ghost use Rattle.vrp_cli.specs.Answer.{AnswersInput};
 
 use crate::answer::Answer;
-use crate::command::Command;
 use crate::texts::fault_line;
+use command_words::Command;
 use model_text::{ReadError, print_model, read_model};
 use path_graph::NoMemory;
 use std::alloc::Global;

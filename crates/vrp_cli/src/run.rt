@@ -2,45 +2,40 @@ ghost use Rattle.std.specs.Prelude.{◌≡◌, ◌+◌, ◌-◌, ◌^◌, ◌<�
 ghost use Rattle.std.specs.Io.KnownBytes.{Appends};
 ghost use Rattle.vrp_io.specs.Counts.{Rose};
 ghost use Rattle.vrp_io.specs.Bytes.{TookExactly};
-ghost use Rattle.vrp_cli.specs.declared.command.Command.{Command};
-ghost use Rattle.vrp_cli.specs.Commands.{Takes, AreTaken, model_part};
-ghost use Rattle.vrp_cli.specs.Headline.{Answers, Runs, SpellsInfeasible, stream};
-ghost use Rattle.vrp_cli.specs.Endings.{WroteLeast, WroteModel, WroteCost, WroteClaim, WroteFault, WrotePlanFault};
-ghost use Rattle.vrp_cli.specs.Endings.{WroteCertificateFault, IsDue};
-ghost use Rattle.vrp_cli.specs.Answer.{status_of, text_of, AnswersInput};
+ghost use Rattle.solve_run.specs.declared.outcome.Limits.{Limits};
+ghost use Rattle.command_words.specs.declared.command.Command.{Command};
+ghost use Rattle.command_words.specs.Commands.{Takes, AreTaken};
+ghost use Rattle.vrp_cli.specs.Commands.{model_part};
+ghost use Rattle.vrp_cli.specs.Headline.{Answers, Runs, stream};
+ghost use Rattle.vrp_cli.specs.Endings.{WroteLeast, WroteNone, WroteLabelLimit, WroteNodeLimit, WroteModel};
+ghost use Rattle.vrp_cli.specs.Endings.{WroteCost, WroteClaim, WroteFault, WrotePlanFault};
+ghost use Rattle.vrp_cli.specs.Endings.{WroteCertificateFault, IsDue, IsKeptBy};
+ghost use Rattle.vrp_cli.specs.Answer.{status_of, text_of, AnswersInput, LimitsFitIn};
 
-use crate::answer::Answer;
+use crate::answer::{Answer, status_alone};
 use crate::check::check;
-use crate::command::{Command, command_of};
 use crate::eval::eval;
 use crate::limits::MAX_INPUT;
 use crate::print::print;
 use crate::solve::solve;
+use crate::status::Status;
+use command_words::{Command, command_of};
 use path_graph::NoMemory;
 use std::alloc::Global;
 use std::thread::Threads;
 use vrp_io::{Gate, ReadFault, Sink, Source, read_all, write_all};
-
-/// How a run ended: the number that the program ends with.
-///
-/// 0 optimal, printed, fine or accepted, 1 infeasible, 2 refused words, 3 refused model, 4 refused paths, plan or certificate, 7 fault of
-/// reading, 8 fault of writing, 9 out of memory, 10 input too long.
-#[derive(Clone, Copy, Debug, PartialEq, Eq)]
-pub struct Status {
-    pub number: u8,
-}
 
 /// Runs the program: reads the words, then the whole input, then works, and writes the whole answer.
 ///
 /// `words` are those after the program's name. Words that are not one of the commands are refused before anything is
 /// read. No call under it waits, so it returns for every input.
 pub fn run_vrp<R: Threads + Sync, S: Source, K: Sink, G: Gate + Sync>(
-    _rt: &R,
+    rt: &R,
     alloc: Global,
     words: &[String],
     source: &mut S,
     sink: &mut K,
-    _gate: &G,
+    gate: &G,
 ) -> Status
     // The whole story: an answer to the words and the input, and how it was told.
     ensures run { Runs (map string_bytes words.now)
@@ -48,10 +43,11 @@ pub fn run_vrp<R: Threads + Sync, S: Source, K: Sink, G: Gate + Sync>(
         (stream (S.left source.new) (S.faults source.new) S.answers_each_fault)
         (stream (K.written sink.old) (K.faults sink.old) K.answers_each_fault)
         (stream (K.written sink.new) (K.faults sink.new) K.answers_each_fault)
-        result.number }
+        result }
 
     // What each status says.
-    ensures optimal { Takes (map string_bytes words.now) Command.Solve → result.number ≡ 0
+    ensures optimal { (limits : Limits) → Takes (map string_bytes words.now) (Command.Solve limits)
+        → result.number ≡ 0
         → IfSome (S.left source.old) (WroteLeast (K.written sink.old) (K.written sink.new)) }
     ensures print { Takes (map string_bytes words.now) Command.Print → result.number ≡ 0
         → IfSome (S.left source.old) (WroteModel (K.written sink.old) (K.written sink.new)) }
@@ -59,9 +55,18 @@ pub fn run_vrp<R: Threads + Sync, S: Source, K: Sink, G: Gate + Sync>(
         → IfSome (S.left source.old) (WroteCost (K.written sink.old) (K.written sink.new)) }
     ensures accepted { Takes (map string_bytes words.now) Command.Check → result.number ≡ 0
         → IfSome (S.left source.old) (WroteClaim (K.written sink.old) (K.written sink.new)) }
-    ensures infeasible { result.number ≡ 1 → Takes (map string_bytes words.now) Command.Solve
-        × IfSome (S.left source.old) SpellsInfeasible
-        × Appends (K.written sink.old) (K.written sink.new) (codes "infeasible\n") }
+    ensures infeasible { result.number ≡ 1 → (limits : Limits)
+        × Takes (map string_bytes words.now) (Command.Solve limits)
+        × IfSome (S.left source.old) (WroteNone (K.written sink.old) (K.written sink.new)) }
+    ensures labels { result.number ≡ 5 → (limits : Limits)
+        × Takes (map string_bytes words.now) (Command.Solve limits)
+        × IfSome (S.left source.old)
+        (WroteLabelLimit limits result.kept (K.written sink.old) (K.written sink.new)) }
+    ensures nodes { result.number ≡ 6 → (limits : Limits)
+        × Takes (map string_bytes words.now) (Command.Solve limits)
+        × IfSome (S.left source.old)
+        (WroteNodeLimit limits result.kept (K.written sink.old) (K.written sink.new)) }
+    ensures kept { IsKeptBy result.number result.kept }
     ensures words { result.number ≡ 2 → AreTaken (map string_bytes words.now) → ⊥ }
     ensures model { result.number ≡ 3 → (command : Command)
         × Takes (map string_bytes words.now) command
@@ -84,35 +89,41 @@ pub fn run_vrp<R: Threads + Sync, S: Source, K: Sink, G: Gate + Sync>(
         → (Rose (K.faults sink.old) (K.faults sink.new) → ⊥)
         → (result.number ≡ 9) ⊎ IfSome (S.left source.old) (IsDue command result.number) }
 {
-    answer_words(alloc, words, source, sink)
+    answer_words(rt, alloc, words, source, sink, gate)
 }
 
 /// Finds the answer to the words and the input, and writes it.
-fn answer_words<S: Source, K: Sink>(
+fn answer_words<R: Threads + Sync, S: Source, K: Sink, G: Gate + Sync>(
+    rt: &R,
     alloc: Global,
     words: &[String],
     source: &mut S,
     sink: &mut K,
+    gate: &G,
 ) -> Status
     ensures run { Runs (map string_bytes words.now)
         (stream (S.left source.old) (S.faults source.old) S.answers_each_fault)
         (stream (S.left source.new) (S.faults source.new) S.answers_each_fault)
         (stream (K.written sink.old) (K.faults sink.old) K.answers_each_fault)
         (stream (K.written sink.new) (K.faults sink.new) K.answers_each_fault)
-        result.number }
+        result }
     ensures unread { (AreTaken (map string_bytes words.now) → ⊥) → source.new ≡ source.old }
 {
-    let answer = decide(alloc, words, source);
+    let answer = decide(rt, alloc, words, source, gate);
     match write_all(sink, answer.text()) {
-        Ok(()) => Status {
-            number: answer.status(),
-        },
-        Err(_) => Status { number: 8 },
+        Ok(()) => answer.status(),
+        Err(_) => status_alone(8),
     }
 }
 
 /// The answer to the words and the input.
-fn decide<S: Source>(alloc: Global, words: &[String], source: &mut S) -> Answer
+fn decide<R: Threads + Sync, S: Source, G: Gate + Sync>(
+    rt: &R,
+    alloc: Global,
+    words: &[String],
+    source: &mut S,
+    gate: &G,
+) -> Answer
     ensures answers { Answers (map string_bytes words.now)
         (stream (S.left source.old) (S.faults source.old) S.answers_each_fault)
         (stream (S.left source.new) (S.faults source.new) S.answers_each_fault)
@@ -123,7 +134,7 @@ fn decide<S: Source>(alloc: Global, words: &[String], source: &mut S) -> Answer
         return Answer::RefusedWords;
     };
     match read_all(alloc, source, MAX_INPUT) {
-        Ok(input) => match answer_input(alloc, command, input.as_slice()) {
+        Ok(input) => match answer_input(rt, alloc, command, input.as_slice(), gate) {
             Ok(answer) => answer,
             Err(_) => Answer::OutOfMemory,
         },
@@ -134,12 +145,19 @@ fn decide<S: Source>(alloc: Global, words: &[String], source: &mut S) -> Answer
 }
 
 /// The answer of a command to an input.
-fn answer_input(alloc: Global, command: Command, input: &[u8]) -> Result<Answer, NoMemory>
-    requires { length input.now < 2 ^ 32 - 1 }
+fn answer_input<R: Threads + Sync, G: Gate + Sync>(
+    rt: &R,
+    alloc: Global,
+    command: Command,
+    input: &[u8],
+    gate: &G,
+) -> Result<Answer, NoMemory>
+    requires limits { LimitsFitIn command }
+    requires few { length input.now < 2 ^ 32 - 1 }
     ensures { IfOk result (AnswersInput command input.now) }
 {
     match command {
-        Command::Solve => solve(alloc, input),
+        Command::Solve(limits) => solve(rt, alloc, &limits, input, gate),
         Command::Print => print(alloc, input),
         Command::Eval => eval(alloc, input),
         Command::Check => check(alloc, input),

@@ -1,14 +1,17 @@
 ghost use Rattle.std.specs.Prelude.{◌≡◌, ◌∷◌, [], ◌++◌, IfOk, OnOk};
 ghost use Rattle.std.specs.List.{flat_map};
 ghost use Rattle.std.specs.Fmt.{decimal};
-ghost use Rattle.vrp_cli.specs.Texts.{accepted_text, claim_words, cost_line, fault_text, plan_fault_words};
+ghost use Rattle.model_text.specs.PathText.{path_line};
+ghost use Rattle.vrp_cli.specs.Texts.{accepted_text, claim_words, cost_line, fault_text, incumbent_text};
+ghost use Rattle.vrp_cli.specs.Texts.{limit_text, plan_fault_words};
 ghost use Rattle.vrp_cli.specs.Texts.{refused_certificate_text, refused_plan_text};
 
 use cert_check::CheckFault;
 use certificate::Goal;
-use model_text::{LineWriter, TextFault};
+use model_text::{LineWriter, TextFault, print_path};
 use path_graph::NoMemory;
-use route_model::Verdict;
+use route_model::{Taken, Verdict};
+use solve_run::Best;
 use std::alloc::Global;
 
 /// Writes a line of a word and a cost.
@@ -108,4 +111,50 @@ fn write_place(text: &mut LineWriter, word: &[u8], place: u32) -> Result<(), NoM
 {
     text.word(word)?;
     text.number(place)
+}
+
+/// `KIND limit NUMBER`, `bound BOUND`, then the best plan.
+pub(crate) fn limit_lines(
+    alloc: Global,
+    kind: &[u8],
+    limit: u32,
+    bound: i64,
+    best: &Option<Best>,
+) -> Result<LineWriter, NoMemory>
+    ensures { IfOk result (λ text. text ≡ limit_text kind.now limit bound best.now) }
+{
+    let mut text = LineWriter::new(alloc);
+    text.first(kind)?;
+    text.word(b"limit")?;
+    text.number(limit)?;
+    text.end_line()?;
+    write_cost(&mut text, b"bound", bound)?;
+    write_incumbent(&mut text, best)?;
+    Ok(text)
+}
+
+/// `incumbent COST` and the path lines of the best plan, or `incumbent none`.
+fn write_incumbent(text: &mut LineWriter, best: &Option<Best>) -> Result<(), NoMemory>
+    ensures { OnOk result (text.new ≡ text.old ++ incumbent_text best.now) }
+{
+    match best {
+        Some(best) => {
+            write_cost(text, b"incumbent", best.cost)?;
+            write_paths(text, best.plan.paths.as_slice())
+        }
+        None => {
+            text.first(b"incumbent")?;
+            text.word(b"none")?;
+            text.end_line()
+        }
+    }
+}
+
+fn write_paths(text: &mut LineWriter, paths: &[Taken]) -> Result<(), NoMemory>
+    ensures { OnOk result (text.new ≡ text.old ++ flat_map path_line paths.now) }
+{
+    for path in paths {
+        print_path(text, path)?;
+    }
+    Ok(())
 }

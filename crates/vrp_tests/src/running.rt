@@ -19,6 +19,9 @@ pub fn words_of(alloc: Global, text: &str) -> Result<Vec<String>, Fail> {
     Ok(words)
 }
 
+/// The most bytes that a run of the tests writes.
+const MOST_WRITTEN: u32 = 1_000_000;
+
 /// What a run ended with, and what it wrote.
 #[derive(Drop)]
 pub struct Ended {
@@ -47,7 +50,12 @@ pub fn run<R: Threads + Sync>(
 ) -> Result<Ended, Fail> {
     let words = words_of(alloc, words)?;
     let mut source = MemSource::new(alloc, input, streams.read_piece, streams.failing_reads)?;
-    let mut sink = MemSink::new(alloc, 1_000, streams.write_piece, streams.failing_writes)?;
+    let mut sink = MemSink::new(
+        alloc,
+        MOST_WRITTEN,
+        streams.write_piece,
+        streams.failing_writes,
+    )?;
     let status = run_vrp(rt, alloc, words.as_slice(), &mut source, &mut sink, &NoGate);
     Ok(Ended {
         number: status.number,
@@ -77,6 +85,48 @@ pub fn answers<R: Threads + Sync + Abort>(
     Ok(())
 }
 
+/// Asserts that a run of `solve` ends with this status; that what it writes begins with this text; and that, where it is a
+/// certificate, `check` finds behind the same input that it proves what its first line says.
+pub fn solves<R: Threads + Sync + Abort>(
+    rt: &R,
+    alloc: Global,
+    words: &str,
+    input: &[u8],
+    status: u8,
+    text: &[u8],
+    row: &str,
+) -> Result<(), Fail> {
+    if status > 1 {
+        return answers(rt, alloc, words, input, status, text, row);
+    }
+    let streams = Streams {
+        read_piece: 1_000,
+        failing_reads: &[],
+        write_piece: 1_000,
+        failing_writes: &[],
+    };
+    let ended = run(rt, alloc, words, input, streams)?;
+    assert_eq!(rt; ended.number, status, "{row}");
+    let written = ended.sink.written();
+    assert!(rt; written.starts_with(text), "{row}");
+    let mut proved = Vec::from_slice(alloc, input)?;
+    proved.push(b'\n')?;
+    proved.extend_from_slice(written)?;
+    let claim = text.split(|byte| *byte == b'\n').next().unwrap_or(text);
+    let mut accepted = Vec::from_slice(alloc, b"accepted ")?;
+    accepted.extend_from_slice(claim)?;
+    accepted.push(b'\n')?;
+    answers(
+        rt,
+        alloc,
+        "check",
+        proved.as_slice(),
+        0,
+        accepted.as_slice(),
+        row,
+    )
+}
+
 /// Asserts what a run over an input ends with, as `3 | refused model 22 12 FreeCycle`: the status, and the lines.
 fn ends_as<R: Threads + Sync + Abort>(
     rt: &R,
@@ -89,6 +139,9 @@ fn ends_as<R: Threads + Sync + Abort>(
     let (status, lines) = expected.split_once(" | ").ok_or("a row without a status")?;
     let text = lines_text(alloc, lines)?;
     let status = status.parse::<u8>()?;
+    if words.starts_with("solve") {
+        return solves(rt, alloc, words, input, status, text.as_slice(), row);
+    }
     answers(rt, alloc, words, input, status, text.as_slice(), row)
 }
 

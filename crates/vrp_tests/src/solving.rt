@@ -1,6 +1,7 @@
-//! What `solve` answers. The expected values are worked out by hand.
+//! What `solve` answers: the first lines of a certificate, which `check` accepts; or a limit. The expected values are worked out
+//! by hand.
 
-use crate::running::{answers, edits_answer, inputs_answer};
+use crate::running::{Streams, edits_answer, inputs_answer, run, solves};
 use std::test::Fail;
 use test_models::texts;
 
@@ -47,13 +48,8 @@ fn solved(rt: HostRuntime) -> Result<(), Fail> {
             0,
             "optimal -6\npath 0 2 0\npath 0 1 1\n",
         ),
-        // A alone, B and C, D and E: 8 + 15 + 10. By hand, and by trying all routes.
-        (
-            "five customers",
-            texts::FIVE_CUSTOMERS,
-            0,
-            "optimal 33\npath 0 1 0 13\npath 0 1 1 7 15\npath 0 1 3 11 17\n",
-        ),
+        // A alone, B and C, D and E: 8 + 15 + 10, each driven either way. By hand, and by trying all routes.
+        ("five customers", texts::FIVE_CUSTOMERS, 0, "optimal 33\n"),
         // B before A, C alone, D before E: 12 + 12 + 10, the only routes of this cost.
         (
             "time windows",
@@ -69,10 +65,10 @@ fn solved(rt: HostRuntime) -> Result<(), Fail> {
             "optimal 7\npath 0 1 0\npath 1 1 0\n",
         ),
     ] {
-        answers(
+        solves(
             &rt,
             rt.alloc(),
-            "solve",
+            "solve --nodes 1000000",
             input.as_bytes(),
             status,
             text.as_bytes(),
@@ -117,6 +113,8 @@ const INPUTS: &str = " | 3 | refused model 1 7 EndMissing
 / | 3 | refused model 2 7 EndMissing
 vrpmodel 1/end/ | 0 | optimal 0
 vrpmodel 1/var 1 1 5/end/ | 1 | infeasible
+vrpmodel 1/var 1 1 5/graph 2 0 1 1 1 1 0/vertex - 0 1/vertex - 0 1/arc 0 1 1 0/end/ | 0 | optimal 5 / path 0 1 0
+vrpmodel 1/var 2 2 -5/graph 2 0 1 0 3 1 0/vertex - 0 1/vertex - 0 1/arc 0 1 1 0/end/ | 0 | optimal -10 / path 0 2 0
 vrpmodel 1/graph 2 0 1 0 0 1 0/vertex - 0 1/vertex - 0 1/end/ | 0 | optimal 0
 vrpmodel  1/graph 2 0 1 0 0 1 0/vertex - 0 1/vertex - 0 1/end/ | 0 | optimal 0
 vrpmodel 1/graph 2 0 1 0 00 1 0/vertex - 0 1/vertex - 0 1/end/ | 0 | optimal 0
@@ -131,10 +129,68 @@ vrpmodel 1\r/var 0 2 3 # note\r/var 0 2 4\r/var 0 2 2\r/var 0 2 5\r/var 0 2 3\r/
 
 #[test]
 fn solved_edits(rt: HostRuntime) -> Result<(), Fail> {
-    edits_answer(&rt, rt.alloc(), "solve", texts::SETS, EDITS)
+    edits_answer(&rt, rt.alloc(), "solve --nodes 1000", texts::SETS, EDITS)
 }
 
 #[test]
 fn solved_inputs(rt: HostRuntime) -> Result<(), Fail> {
     inputs_answer(&rt, rt.alloc(), "solve", INPUTS)
+}
+
+/// One label is that of the root.
+#[test]
+fn stopped_at_labels(rt: HostRuntime) -> Result<(), Fail> {
+    for words in ["solve --labels 1", "solve --labels=1 --nodes 1000"] {
+        edits_answer(
+            &rt,
+            rt.alloc(),
+            words,
+            texts::SETS,
+            "1 0 |  | 5 | label limit 1 / bound 0 / incumbent none",
+        )?;
+    }
+    Ok(())
+}
+
+/// One node is the list of all walks at the root place, whose counts are open.
+#[test]
+fn stopped_at_nodes(rt: HostRuntime) -> Result<(), Fail> {
+    for (name, input, text) in [(
+        "four vertices",
+        texts::SETS,
+        "node limit 1\nbound 0\nincumbent none\n",
+    )] {
+        solves(
+            &rt,
+            rt.alloc(),
+            "solve --nodes 1",
+            input.as_bytes(),
+            6,
+            text.as_bytes(),
+            name,
+        )?;
+    }
+    Ok(())
+}
+
+#[test]
+fn solved_twice(rt: HostRuntime) -> Result<(), Fail> {
+    let streams = Streams {
+        read_piece: 1_000,
+        failing_reads: &[],
+        write_piece: 1_000,
+        failing_writes: &[],
+    };
+    let input = texts::TIME_WINDOWS.as_bytes();
+    let first = run(&rt, rt.alloc(), "solve --nodes 1000", input, streams)?;
+    let second = run(
+        &rt,
+        rt.alloc(),
+        "solve --nodes=1000 --workers 1",
+        input,
+        streams,
+    )?;
+    assert_eq!(rt; first.number, 0);
+    assert_eq!(rt; first.sink.written(), second.sink.written());
+    Ok(())
 }

@@ -109,14 +109,14 @@ fn faults(rt: HostRuntime) -> Result<(), Fail> {
         ),
         // Small pieces.
         (
-            "solve",
+            "solve --labels 1",
             texts::SETS,
             1,
             none,
             1,
             none,
-            0,
-            "optimal 9\npath 0 1 0 2 5\n",
+            5,
+            "label limit 1\nbound 0\nincumbent none\n",
         ),
         ("print", texts::SETS, 1, none, 1, none, 0, texts::SETS),
         ("eval", NOTHING, 1, none, 1, none, 0, "fine 0\n"),
@@ -175,7 +175,7 @@ fn reads_that_are_tried_again(rt: HostRuntime) -> Result<(), Fail> {
             &NoGate,
         );
         assert_eq!(rt; ended.number, status);
-        assert_eq!(rt; sink.written(), text.as_bytes());
+        assert!(rt; sink.written().starts_with(text.as_bytes()));
         assert_eq!(rt; source.faults(), faults);
     }
     Ok(())
@@ -220,7 +220,7 @@ fn files(rt: HostRuntime) -> Result<(), Fail> {
     );
     assert_eq!(rt; status.number, 0);
     let answer = fs::read_to_string(&rt, "answer")?;
-    assert_eq!(rt; answer.as_str(), "optimal 9\npath 0 1 0 2 5\n");
+    assert!(rt; answer.starts_with("optimal 9\npath 0 1 0 2 5\nproof 1\n"));
     Ok(())
 }
 

@@ -1,4 +1,4 @@
-use Rattle.vrp_cli.proofs.ClauseLemmas.{optimal_of, print_of, fine_of, accepted_of, infeasible_of, words_of, model_of, refused_of, read_of, write_of, long_of, unread_of}
+use Rattle.vrp_cli.proofs.ClauseLemmas.{optimal_of, print_of, fine_of, accepted_of, infeasible_of, labels_of, nodes_of, kept_of, words_of, model_of, refused_of, read_of, write_of, long_of, unread_of}
 use Rattle.vrp_cli.proofs.DueLemmas.{due_of}
 use Rattle.vrp_cli.proofs.run.run_vrp.Goals as goal
 
@@ -16,6 +16,15 @@ returns-clause-accepted g c = accepted_of c.answer_words.ensures.run
 
 pub returns-clause-infeasible : goal.returns-clause-infeasible
 returns-clause-infeasible g c = infeasible_of c.answer_words.ensures.run
+
+pub returns-clause-labels : goal.returns-clause-labels
+returns-clause-labels g c = labels_of c.answer_words.ensures.run
+
+pub returns-clause-nodes : goal.returns-clause-nodes
+returns-clause-nodes g c = nodes_of c.answer_words.ensures.run
+
+pub returns-clause-kept : goal.returns-clause-kept
+returns-clause-kept g c = kept_of c.answer_words.ensures.run
 
 pub returns-clause-words : goal.returns-clause-words
 returns-clause-words g c = words_of c.answer_words.ensures.run

@@ -1,0 +1,4 @@
+pub mod OptionLemmas
+pub mod SettingLemmas
+pub mod ReadLemmas
+pub mod CommandLemmas
