@@ -8,4 +8,5 @@ mod solving;
 mod told;
 
 pub use outcome::{Best, Limits, MAX_WORKERS, Outcome};
+pub use place_nodes::LabelWall;
 pub use solving::solve;

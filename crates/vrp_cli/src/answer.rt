@@ -6,8 +6,7 @@ use crate::status::{Kept, Status};
 use certificate::Node;
 use model_text::LineWriter;
 use path_graph::List;
-use place_nodes::LabelWall;
-use solve_run::Best;
+use solve_run::{Best, LabelWall};
 
 /// What a run answers.
 #[derive(Drop)]

@@ -1,7 +1,6 @@
 use certificate::Node;
 use path_graph::List;
-use place_nodes::LabelWall;
-use solve_run::Best;
+use solve_run::{Best, LabelWall};
 
 /// What a run keeps of a limit that the search met: why the labels were not enough; or the nodes of its tree (an open place has
 /// the line 0) with the best plan that was found.
