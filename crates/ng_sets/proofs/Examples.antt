@@ -3,12 +3,14 @@ use Rattle.std.proofs.Common.{◌≡◌, ℕ, ◌<◌, ◌≤◌, ◌&&◌, ◌|
 use Rattle.std.specs.Prelude.{IfSome}
 use Rattle.std.proofs.lemmas.Bool.{agree_below, agree_below_at, cases_lt, le-ltb, ne_eqb}
 use Rattle.path_graph.specs.declared.set_bits.SetBits.{SetBits}
+use Rattle.path_graph.specs.declared.parts.GraphArc.{GraphArc}
 use Rattle.path_graph.specs.declared.parts.Vertex.{Vertex}
 use Rattle.path_graph.specs.SetBits.{has_set}
 use Rattle.path_graph.specs.Walk.{GraphParts}
 use Rattle.path_graph.proofs.SetBitsLemmas.{has_past}
 use Rattle.ng_sets.specs.Memory.{IsRemembered, is_visited, Remembers}
 use Rattle.ng_sets.specs.Near.{near_at, IsVertex, FitsGraphs, HasShape}
+use Rattle.ng_sets.specs.Widening.{ComesBack, IsBetween, count_below, has_grown}
 
 abbrev sets_of : ℕ → SetBits
 sets_of word = record { bits = word ∷ 0 ∷ 0 ∷ 0 ∷ 0 ∷ 0 ∷ 0 ∷ 0 ∷ [] }
@@ -92,3 +94,33 @@ vertex = record { set = None; windows = [] }
 
 fits : FitsGraphs lists (graph_of (vertex ∷ vertex ∷ []) ∷ graph_of (vertex ∷ []) ∷ [])
 fits = refl
+
+-- a walk that comes back to set 0 by way of another vertex: vertices 0 to 3, arcs 0 → 1 → 2 → 1 → 3
+abbrev in_set : ℕ → Vertex
+in_set s = record { set = Some s; windows = [] }
+
+abbrev arc_from : ℕ → ℕ → GraphArc
+arc_from tail head = record { tail = tail; head = head; needs = [] }
+
+abbrev returning : GraphParts
+returning = record {
+  ends = record { source = 0; sink = 3; low = 0; high = 1; mains = 1; seconds = 0 };
+  vertices = vertex ∷ in_set 0 ∷ in_set 1 ∷ vertex ∷ [];
+  arcs = arc_from 0 1 ∷ arc_from 1 2 ∷ arc_from 2 1 ∷ arc_from 1 3 ∷ [];
+}
+
+-- its third visit is the first to a set that was visited before, and vertex 2 alone stands between
+comes_back : ComesBack returning (0 ∷ 1 ∷ 2 ∷ 3 ∷ []) 0 2 0
+comes_back = record { before = omega arith; first = refl; second = refl }
+
+between : IsBetween returning (0 ∷ 1 ∷ 2 ∷ 3 ∷ []) 0 2 2
+between = (1, omega arith, omega arith, refl)
+
+-- set 0 was near no vertex, and now is near vertex 2: one list grew; the second time none does
+one_grew : count_below 4 (has_grown ((sets_of 0 ∷ sets_of 0 ∷ sets_of 0 ∷ sets_of 0 ∷ []) ∷ []) ((sets_of 0 ∷ sets_of 0 ∷ sets_of 1 ∷ sets_of 0 ∷ []) ∷ []) 0 0) ≡ 1
+unfolding has_set
+one_grew = refl
+
+none_grew : count_below 4 (has_grown ((sets_of 0 ∷ sets_of 0 ∷ sets_of 1 ∷ sets_of 0 ∷ []) ∷ []) ((sets_of 0 ∷ sets_of 0 ∷ sets_of 1 ∷ sets_of 0 ∷ []) ∷ []) 0 0) ≡ 0
+unfolding has_set
+none_grew = refl

@@ -3,6 +3,8 @@
 
 mod memory;
 mod near;
+mod widening;
 
 pub use memory::visit;
 pub use near::Near;
+pub use widening::widen;
