@@ -28,4 +28,5 @@ pub use fix::is_fixed;
 pub use index::label_index;
 pub use laws::demands_are_the_proof;
 pub use lists::back_labels;
+pub use near::near_of;
 pub use proved::Proved;

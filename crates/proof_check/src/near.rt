@@ -10,7 +10,7 @@ use route_model::Model;
 use std::alloc::Global;
 
 /// The near lists of a proof by graph and vertex: nothing is near a vertex without a line, and of two lines the first counts.
-pub(crate) fn near_of(
+pub fn near_of(
     alloc: Global,
     model: &Model,
     lines: &[(u32, u32, SetBits)],
