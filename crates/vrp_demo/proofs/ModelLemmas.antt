@@ -10,13 +10,14 @@ use Rattle.std.proofs.lemmas.List.Sums.{sum_by-le}
 use Rattle.std.proofs.lemmas.List.FromFn.{length-map-range_with_len}
 use Rattle.path_graph.specs.Parts.{GraphParts}
 use Rattle.route_model.specs.declared.parts.Var.{Var}
+use Rattle.route_model.specs.declared.parts.Row.{Row}
 use Rattle.route_model.specs.Parts.{graph_in, maps_in}
 use Rattle.route_model.specs.Fit.{VarFits, VarsFit, MapFits, GraphMapsFit, MapsFit, GraphFits, GraphsFit, ModelFits, cost_range_of, cost_range}
 use Rattle.vrp_demo.specs.declared.stops.Stop.{Stop}
 use Rattle.vrp_demo.specs.declared.arcs.Pair.{Pair}
 use Rattle.vrp_demo.specs.Arcs.{all_pairs, stop_in, arc_over, variable_over}
 use Rattle.vrp_demo.specs.Network.{graph_over}
-use Rattle.vrp_demo.specs.Generated.{maps_of, model_over}
+use Rattle.vrp_demo.specs.Generated.{rows_over, maps_of, one_graph, model_over}
 use Rattle.vrp_demo.specs.Sound.{StopFits, AreStops}
 use Rattle.vrp_demo.proofs.PairLemmas.{few_pairs, all_of_range}
 use Rattle.vrp_demo.proofs.GraphLemmas.{graph_fits}
@@ -104,3 +105,9 @@ model_fits size stops small sound =
       graphs = graphs_fit size graph (graph_fits size stops small sound) (omega (arith, arcs, few)) small;
       maps = maps_fit (length (map (variable_over stops) (all_pairs size))) graph same;
     }
+
+-- the model that is built
+pub model_is : (size : ℕ) (stops : List Stop) (graph : GraphParts) (vars : List Var) (rows : List Row) → graph ≡ graph_over size stops → vars ≡ map (variable_over stops) (all_pairs size) → rows ≡ rows_over size graph.arcs → one_graph size graph vars rows ≡ model_over size stops
+model_is size stops graph vars rows graph_is vars_are rows_are =
+    (λ i. one_graph size graph (vars_are i) (rows_are i))
+    ∙ ap (λ (g : GraphParts). one_graph size g (map (variable_over stops) (all_pairs size)) (rows_over size g.arcs)) graph_is
