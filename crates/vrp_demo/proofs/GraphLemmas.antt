@@ -154,9 +154,9 @@ leads_on size stops p sound fits =
     record {
       tail = fits.tail;
       free = λ free. elim (cases_lt size p.head) [
-          | inl past ↦ past
-          | inr within ↦ absurd (no_need (stop_in stops p.head).demand (pos 0 ∷ pos 0 ∷ pos 0 ∷ pos 0 ∷ pos 0 ∷ []) (sound.demands p.head fits.some within) free)
-        ];
+        | inl past ↦ past
+        | inr within ↦ absurd (no_need (stop_in stops p.head).demand (pos 0 ∷ pos 0 ∷ pos 0 ∷ pos 0 ∷ pos 0 ∷ []) (sound.demands p.head fits.some within) free)
+      ];
     }
 
 pub graph_acyclic : (size : ℕ) (stops : List Stop) → AreStops size stops → HasNoFreeCycle (map (arc_over stops) (all_pairs size))

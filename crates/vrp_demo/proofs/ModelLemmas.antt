@@ -53,7 +53,7 @@ pub costs_small : (size : ℕ) (stops : List Stop) → size ≤ 100 → AreStops
 costs_small size stops small sound =
     let vars = map (variable_over stops) (all_pairs size) in
     let each : All (λ (v : Var). cost_range_of v ≤ 198) vars =
-        All-map (λ (v : Var). cost_range_of v ≤ 198) (variable_over stops) (all_pairs size) (λ k d within. variable_cost size stops (get_or (all_pairs size) k d) sound)
+    All-map (λ (v : Var). cost_range_of v ≤ 198) (variable_over stops) (all_pairs size) (λ k d within. variable_cost size stops (get_or (all_pairs size) k d) sound)
     in
     omega (arith, sum_by-le cost_range_of 198 vars each, length-map (all_pairs size) (variable_over stops), few_pairs size small)
 
@@ -82,7 +82,7 @@ maps_fit count graph long = record { graphs_mapped = refl; each = each }
     each zero within = of_graph
     each (suc g) within = absurd (omega arith)
 
-graphs_fit : (size : ℕ) (graph : GraphParts) → GraphFits size graph → length graph.arcs ≤ 10201 → graph.ends.high ≤ 100 → GraphsFit size (graph ∷ [])
+graphs_fit : (size : ℕ) (graph : GraphParts) → GraphFits size graph → length graph.arcs ≤ 10100 → graph.ends.high ≤ 100 → GraphsFit size (graph ∷ [])
 graphs_fit size graph fits few paths =
     record {
       few = omega arith;

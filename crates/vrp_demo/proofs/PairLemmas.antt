@@ -1,11 +1,13 @@
 -- Lists of pairs, one by one, and what holds of each pair.
-use Rattle.std.proofs.Common.{◌≡◌, ℕ, zero, suc, ◌+◌, ◌-◌, ◌*◌, ◌<◌, ◌≤◌, Bool, true, false, cond, List, [], ◌∷◌, ◌++◌, length, map, refl, sym, ap, ◌∙◌, subst, arith, mul-le-mul, get_or}
-use Rattle.std.specs.Prelude.{All, filter, flat_map, sum_by}
+use Rattle.std.proofs.Common.{◌≡◌, ℕ, zero, suc, ◌+◌, ◌-◌, ◌*◌, ◌<◌, ◌≤◌, Bool, true, false, cond, List, [], ◌∷◌, ◌++◌, length, map, refl, sym, ap, ◌∙◌, subst, arith, mul-le-mul, get_or, ◌≢◌, inl, inr}
+use Rattle.std.specs.Prelude.{All, filter, flat_map, count_by}
 use Rattle.std.specs.List.{range_with_len}
-use Rattle.std.proofs.lemmas.List.{map-append, map-id, append_assoc, append-nil, length-map}
-use Rattle.std.proofs.lemmas.List.Concat.{flat_map-append, length-flat_map}
+use Rattle.std.proofs.lemmas.List.{map-append, map-id, append_assoc, append-nil, length-map, length-append}
+use Rattle.std.proofs.lemmas.List.Concat.{flat_map-append}
 use Rattle.std.proofs.lemmas.List.Elements.{filter-append, All-nil, All-append, All-map, All-filter}
-use Rattle.std.proofs.lemmas.List.Sums.{length-filter, count_by-le-length, sum_by-le}
+use Rattle.std.proofs.lemmas.List.Sums.{length-filter, sum_by-cons}
+use Rattle.std.proofs.lemmas.Bool.{cases_eq}
+use Rattle.std.proofs.lemmas.Bool.Decides.{nat_tests}
 use Rattle.std.proofs.lemmas.List.FromFn.{map-range_with_len_more, length-range_with_len, get_or-range_with_len}
 use Rattle.vrp_demo.specs.declared.arcs.Pair.{Pair}
 use Rattle.vrp_demo.specs.Arcs.{is_arc, pairs_from, all_pairs}
@@ -85,19 +87,61 @@ pairs_fit_from size a (suc n) few =
 pub pairs_fit : (size : ℕ) → All (PairFits size) (all_pairs size)
 pairs_fit size = pairs_fit_from size 0 (size + 1) (omega arith)
 
--- at most 101 times 101 arcs
-pub few_pairs : (size : ℕ) → size ≤ 100 → length (all_pairs size) ≤ 10201
-few_pairs size small =
-    let each : (tail : ℕ) → length (pairs_from size tail) ≤ size + 1 = λ tail. out tail in
-    let sum = sum_by-le (λ tail. length (pairs_from size tail)) (size + 1) (range_with_len 0 (size + 1)) (λ k d within. each (get_or (range_with_len 0 (size + 1)) k d)) in
-    let side : size + 1 ≤ 101 = omega arith in
-    let square : (size + 1) * (size + 1) ≤ 101 * 101 = mul-le-mul side side in
-    let long = length-flat_map (pairs_from size) (range_with_len 0 (size + 1)) in
-    let count : length (range_with_len 0 (size + 1)) * (size + 1) ≡ (size + 1) * (size + 1) = ap (λ n. n * (size + 1)) (length-range_with_len 0 (size + 1)) in
-    omega (arith, sum, square, long, count)
+-- how many numbers of a range pass, where all do or all but one
+count_all : (p : ℕ → Bool) (a n : ℕ) → ((h : ℕ) → a ≤ h → h < a + n → p h ≡ true) → count_by p (range_with_len a n) ≡ n
+count_all p a zero each = refl
+count_all p a (suc n) each =
+    let first = sum_by-cons (λ (h : ℕ). cond (p h) 1 0) a (range_with_len (a + 1) n) in
+    let here : ◌≡◌ {A = ℕ} (cond (p a) 1 0) 1 = ap (λ (b : Bool). cond b 1 0) (each a (omega arith) (omega arith)) in
+    omega (arith, first, here, count_all p (a + 1) n (λ h low high. each h (omega arith) (omega arith)))
+
+count_but_one : (p : ℕ → Bool) (e a n : ℕ) → a ≤ e → e < a + n → p e ≡ false → ((h : ℕ) → a ≤ h → h < a + n → h ≢ e → p h ≡ true) → count_by p (range_with_len a n) + 1 ≡ n
+count_but_one p e a zero low high out each = absurd (omega arith)
+count_but_one p e a (suc n) low high out each =
+    let first = sum_by-cons (λ (h : ℕ). cond (p h) 1 0) a (range_with_len (a + 1) n) in
+    elim (cases_eq a e) [
+      | inl same ↦
+          let here : ◌≡◌ {A = ℕ} (cond (p a) 1 0) 0 = ap (λ (h : ℕ). cond (p h) 1 0) same ∙ ap (λ (b : Bool). cond b 1 0) out in
+          omega (arith, first, here, count_all p (a + 1) n (λ h l m. each h (omega arith) (omega arith) (λ eq. absurd (omega arith))))
+      | inr other ↦
+          let here : ◌≡◌ {A = ℕ} (cond (p a) 1 0) 1 = ap (λ (b : Bool). cond b 1 0) (each a (omega arith) (omega arith) other) in
+          omega (arith, first, here, count_but_one p e (a + 1) n (omega arith) (omega arith) out (λ h l m. each h (omega arith) (omega arith)))
+    ]
+
+-- each vertex but the sink has an arc to each of so many others as there are customers
+heads_counted : (size tail : ℕ) → tail ≤ size → count_by (is_arc size tail) (range_with_len 1 (size + 1)) ≡ size
+heads_counted size zero below =
+    let out : is_arc size 0 (size + 1) ≡ false = grind (arith, nat_tests) in
+    let count = count_but_one (is_arc size 0) (size + 1) 1 (size + 1) (omega arith) (omega arith) out (λ h low high other. from_source h low other) in
+    omega (arith, count)
   where
-    out : (tail : ℕ) → length (pairs_from size tail) ≤ size + 1
-    out tail =
-        let heads = filter (is_arc size tail) (range_with_len 1 (size + 1)) in
-        let pair : ℕ → Pair = λ h. record { tail = tail; head = h } in
-        omega (arith, length-map heads pair, length-filter (is_arc size tail) (range_with_len 1 (size + 1)), count_by-le-length (is_arc size tail) (range_with_len 1 (size + 1)), length-range_with_len 1 (size + 1))
+    from_source : (h : ℕ) → 1 ≤ h → h ≢ size + 1 → is_arc size 0 h ≡ true
+    from_source h low other = grind (arith, nat_tests)
+heads_counted size (suc t) below =
+    let out : is_arc size (suc t) (suc t) ≡ false = grind (arith, nat_tests) in
+    let count = count_but_one (is_arc size (suc t)) (suc t) 1 (size + 1) (omega arith) (omega arith) out (λ h low high other. from_customer h low other) in
+    omega (arith, count)
+  where
+    from_customer : (h : ℕ) → 1 ≤ h → h ≢ suc t → is_arc size (suc t) h ≡ true
+    from_customer h low other = grind (arith, nat_tests)
+
+pairs_from_count : (size tail : ℕ) → tail ≤ size → length (pairs_from size tail) ≡ size
+pairs_from_count size tail below =
+    let heads = filter (is_arc size tail) (range_with_len 1 (size + 1)) in
+    let pair : ℕ → Pair = λ h. record { tail = tail; head = h } in
+    omega (arith, length-map heads pair, length-filter (is_arc size tail) (range_with_len 1 (size + 1)), heads_counted size tail below)
+
+pair_count_from : (size a n : ℕ) → a + n ≤ size + 1 → length (flat_map (pairs_from size) (range_with_len a n)) ≡ n * size
+pair_count_from size a zero few = omega arith
+pair_count_from size a (suc n) few =
+    omega (arith, length-append (pairs_from size a) (flat_map (pairs_from size) (range_with_len (a + 1) n)), pairs_from_count size a (omega arith), pair_count_from size (a + 1) n (omega arith))
+
+-- so there are so many arcs
+pub pair_count : (size : ℕ) → length (all_pairs size) ≡ (size + 1) * size
+pair_count size = pair_count_from size 0 (size + 1) (omega arith)
+
+pub few_pairs : (size : ℕ) → size ≤ 100 → length (all_pairs size) ≤ 10100
+few_pairs size small =
+    let side : size + 1 ≤ 101 = omega arith in
+    let product : (size + 1) * size ≤ 101 * 100 = mul-le-mul side small in
+    omega (arith, pair_count size, product)

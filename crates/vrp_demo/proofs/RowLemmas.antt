@@ -90,7 +90,7 @@ row_fits count arcs v long =
       ascend = terms_ascend (arcs_into arcs v) (IsStrictlyIncreasing-filter into (range_with_len 0 (length arcs)) (range_increases (length arcs)));
     }
 
-pub rows_fit : (size count : ℕ) (arcs : List GraphArc) → size ≤ 100 → length arcs ≡ count → count ≤ 10201 → RowsFit count (rows_over size arcs)
+pub rows_fit : (size count : ℕ) (arcs : List GraphArc) → size ≤ 100 → length arcs ≡ count → count ≤ 10100 → RowsFit count (rows_over size arcs)
 rows_fit size count arcs small long few =
     let rows = length-map-range_with_len (row_into arcs) 1 size in
     let terms = small_over_rows size arcs (λ row. length row.terms) (λ v. omega (arith, length-map (arcs_into arcs v) term_of)) in

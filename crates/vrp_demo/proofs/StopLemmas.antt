@@ -77,7 +77,7 @@ are_stops seed size =
     demands : (v : ℕ) → 1 ≤ v → v ≤ size → 1 ≤ (stop_in (stops seed size) v).demand
     demands v low high =
         let here : stop_in (stops seed size) v ≡ customer seed v =
-            stop_is seed size v (omega arith) ∙ ap (λ (b : Bool). if b then customer seed v else depot_from seed) (customer_vertex size v low high)
+        stop_is seed size v (omega arith) ∙ ap (λ (b : Bool). if b then customer seed v else depot_from seed) (customer_vertex size v low high)
         in
         let some : 1 ≤ (customer seed v).demand = omega arith in
         subst (λ (s : Stop). 1 ≤ s.demand) (sym here) some

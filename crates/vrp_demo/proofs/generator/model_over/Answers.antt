@@ -23,7 +23,7 @@ build_over-requires-clause-fits c =
     let size = c.args.size in
     let stops = c.args.stops.now in
     let vars : c.in_ok-vars.vars ≡ map (variable_over stops) (all_pairs size) =
-        c.in_ok-vars.ensures ∙ ap (map (variable_over stops)) c.requires.pairs
+    c.in_ok-vars.ensures ∙ ap (map (variable_over stops)) c.requires.pairs
     in
     subst ModelFits (sym (model_is size stops _ _ _ c.in_ok-graph.ensures vars c.in_ok-rows.ensures)) (model_fits size stops c.requires.size c.requires.stops)
 
@@ -32,6 +32,6 @@ build_over-requires-clause-costs c =
     let size = c.args.size in
     let stops = c.args.stops.now in
     let vars : c.in_ok-vars.vars ≡ map (variable_over stops) (all_pairs size) =
-        c.in_ok-vars.ensures ∙ ap (map (variable_over stops)) c.requires.pairs
+    c.in_ok-vars.ensures ∙ ap (map (variable_over stops)) c.requires.pairs
     in
     subst (λ (vs : List Var). cost_range vs ≤ 2 ^ 40) (sym vars) (costs_small size stops c.requires.size c.requires.stops)

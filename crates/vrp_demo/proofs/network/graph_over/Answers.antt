@@ -21,7 +21,7 @@ new-requires c =
     let size = c.args.size in
     let stops = c.args.stops.now in
     let arcs : c.as_slice-2.result.now ≡ map (arc_over stops) (all_pairs size) =
-        c.as_slice-2.ensures ∙ (c.in_ok-arcs.ensures ∙ ap (map (arc_over stops)) c.requires.pairs)
+    c.as_slice-2.ensures ∙ (c.in_ok-arcs.ensures ∙ ap (map (arc_over stops)) c.requires.pairs)
     in
     let points : c.as_slice.result.now ≡ vertices size = c.as_slice.ensures ∙ c.in_ok-vertices.ensures in
     record { fit = rw (c.ends_of.ensures, arcs, points) (graph_parts_fit size stops c.requires.size c.requires.stops) }
@@ -31,7 +31,7 @@ unreachable-requires c =
     let size = c.args.size in
     let stops = c.args.stops.now in
     let arcs : c.as_slice-2.result.now ≡ map (arc_over stops) (all_pairs size) =
-        c.as_slice-2.ensures ∙ (c.in_ok-arcs.ensures ∙ ap (map (arc_over stops)) c.requires.pairs)
+    c.as_slice-2.ensures ∙ (c.in_ok-arcs.ensures ∙ ap (map (arc_over stops)) c.requires.pairs)
     in
     let fault = subst (λ (f : GraphFault). IsCycleFault c.as_slice-2.result.now f) c.in-Err-FreeCycle.field-0-is c.in-Err-FreeCycle.ensures.cycle in
     subst HasNoFreeCycle (sym arcs) (graph_acyclic size stops c.requires.stops) _ fault

@@ -21,7 +21,7 @@ loop-preserved c =
     let next : 3 * i + 2 + 3 ≡ 3 * (i + 1) + 2 = omega arith in
     let drawn = customer_drawn seed size i c.loop.draws.state c.loop-test.true c.loop.invariant.0 in (
       c.customer.ensures.state
-      ∙ (ap (λ x. state x 3) c.loop.invariant.0 ∙ (state_later seed (3 * i + 2) 3 ∙ ap (state seed) next)),
+          ∙ (ap (λ x. state x 3) c.loop.invariant.0 ∙ (state_later seed (3 * i + 2) 3 ∙ ap (state seed) next)),
       item_more (stop_at seed size) 0 (i + 1) (i + 1) _ _ _ (omega arith) c.loop.invariant.1 (c.customer.ensures.stop ∙ drawn) c.in_ok-push-2.ensures.ok,
     )
 
@@ -31,7 +31,7 @@ returns c =
     let size = c.args.size in
     let end : c.loop.counter ≡ size = omega (arith, c.loop-test.false) in
     let so_far : c.loop.stops ≡ map (stop_at seed size) (range_with_len 0 (size + 1)) =
-        c.loop.invariant.1 ∙ ap (λ n. map (stop_at seed size) (range_with_len 0 (n + 1))) end
+    c.loop.invariant.1 ∙ ap (λ n. map (stop_at seed size) (range_with_len 0 (n + 1))) end
     in
     let last : size + 1 + 1 ≡ size + 2 = omega arith in
     item_more (stop_at seed size) 0 (size + 1) (size + 1) _ _ _ (omega arith) so_far (c.depot-depot.ensures.stop ∙ sink_stop seed size) c.in_ok-push-3.ensures.ok
