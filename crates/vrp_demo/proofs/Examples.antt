@@ -6,7 +6,6 @@ use Rattle.path_graph.specs.declared.parts.GraphArc.{GraphArc}
 use Rattle.route_model.specs.declared.parts.Var.{Var}
 use Rattle.route_model.specs.declared.parts.RowTerm.{RowTerm}
 use Rattle.route_model.specs.declared.parts.Row.{Row}
-use Rattle.route_model.specs.Parts.{ModelParts}
 use Rattle.vrp_demo.specs.declared.stops.Stop.{Stop}
 use Rattle.vrp_demo.specs.Draws.{state}
 use Rattle.vrp_demo.specs.Stops.{stops}

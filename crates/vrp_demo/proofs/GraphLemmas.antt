@@ -1,5 +1,5 @@
 -- The parts of the graph fit, and arcs without consumption form no cycle.
-use Rattle.std.proofs.Common.{◌≡◌, ℕ, zero, suc, ◌+◌, ◌-◌, ◌*◌, ◌<◌, ◌≤◌, ℤ, pos, neg_ℤ, ◌≤ℤ◌, Bool, true, false, List, [], ◌∷◌, length, map, get_or, refl, sym, ap, ◌∙◌, subst, arith, Option, Some, None, inl, inr}
+use Rattle.std.proofs.Common.{◌≡◌, ℕ, zero, suc, ◌+◌, ◌-◌, ◌<◌, ◌≤◌, ℤ, pos, Bool, true, false, List, [], ◌∷◌, length, map, get_or, refl, sym, ap, ◌∙◌, subst, arith, Option, Some, None, inl, inr}
 use Rattle.std.specs.Prelude.{All, IfSome, if◌then◌else◌, nat_lt, ◌&&◌}
 use Rattle.std.proofs.lemmas.Bool.{cases_lt}
 use Rattle.std.specs.List.{range_with_len}
@@ -8,21 +8,19 @@ use Rattle.std.proofs.lemmas.Bool.Decides.{nat_tests, Decides-int_eq}
 use Rattle.std.proofs.lemmas.List.{length-map}
 use Rattle.std.proofs.lemmas.List.Elements.{All-map, All-weaker}
 use Rattle.std.proofs.lemmas.List.FromFn.{length-map-range_with_len, get_or-map-range_with_len}
-use Rattle.path_graph.specs.declared.parts.Window.{Window}
 use Rattle.path_graph.specs.declared.parts.Vertex.{Vertex}
 use Rattle.path_graph.specs.declared.parts.GraphArc.{GraphArc}
 use Rattle.path_graph.specs.Fit.{int_at, window_at, is_used_at, WindowFits, NeedFits, VertexFits, ArcFits, EndsFit, vertex_at, PartsFit}
-use Rattle.path_graph.specs.Parts.{GraphParts, arc_at}
-use Rattle.path_graph.specs.Free.{is_free, IsFreeCycle, HasNoFreeCycle}
-use Rattle.path_graph.specs.Graph.{IsGraph}
+use Rattle.path_graph.specs.Parts.{arc_at}
+use Rattle.path_graph.specs.Free.{is_free, HasNoFreeCycle}
 use Rattle.route_model.specs.Fit.{IsDeclared, GraphFits}
 use Rattle.vrp_demo.specs.declared.stops.Stop.{Stop}
 use Rattle.vrp_demo.specs.declared.arcs.Pair.{Pair}
 use Rattle.vrp_demo.specs.Stops.{is_customer}
 use Rattle.vrp_demo.specs.Arcs.{all_pairs, stop_in, arc_over, AreIn}
 use Rattle.vrp_demo.specs.Network.{set_of, vertex_of, vertices, ends_of, graph_over}
-use Rattle.vrp_demo.specs.Sound.{StopFits, AreStops}
-use Rattle.vrp_demo.proofs.PairLemmas.{PairFits, pairs_fit, few_pairs, all_of_range}
+use Rattle.vrp_demo.specs.Sound.{AreStops}
+use Rattle.vrp_demo.proofs.PairLemmas.{PairFits, pairs_fit, few_pairs}
 use Rattle.vrp_demo.proofs.StopLemmas.{past_customers}
 
 pub six : (P : ℕ → Type 0) → P 0 → P 1 → P 2 → P 3 → P 4 → P 5 → (k : ℕ) → k < 6 → P k

@@ -1,6 +1,6 @@
 -- The rows fit.
-use Rattle.std.proofs.Common.{◌≡◌, ℕ, zero, suc, ◌+◌, ◌-◌, ◌*◌, ◌<◌, ◌≤◌, ℤ, pos, Bool, true, false, cond, List, [], ◌∷◌, length, map, get_or, refl, sym, ap, ◌∙◌, subst, arith, Some, unsigned_abs}
-use Rattle.std.specs.Prelude.{All, filter, sum_by, count_by, nat_lt, ◌==◌, if◌then◌else◌}
+use Rattle.std.proofs.Common.{◌≡◌, ℕ, zero, suc, ◌+◌, ◌<◌, ◌≤◌, pos, Bool, true, false, cond, List, [], ◌∷◌, length, map, get_or, refl, sym, ap, ◌∙◌, arith, unsigned_abs}
+use Rattle.std.specs.Prelude.{filter, sum_by, count_by, nat_lt, ◌==◌, if◌then◌else◌}
 use Rattle.std.specs.List.{range_with_len}
 use Rattle.std.specs.List.Sorted.{IsStrictlyIncreasing}
 use Rattle.std.proofs.lemmas.Int.{ints}
@@ -14,7 +14,7 @@ use Rattle.path_graph.specs.declared.parts.GraphArc.{GraphArc}
 use Rattle.path_graph.specs.Parts.{arc_at, arcs_into}
 use Rattle.route_model.specs.declared.parts.RowTerm.{RowTerm}
 use Rattle.route_model.specs.declared.parts.Row.{Row}
-use Rattle.route_model.specs.Fit.{TermFits, Ascends, RowFits, row_coef, total_coef, RowsFit}
+use Rattle.route_model.specs.Fit.{TermFits, Ascends, RowFits, row_coef, RowsFit}
 use Rattle.vrp_demo.specs.Generated.{term_of, row_into, rows_over}
 use Rattle.vrp_demo.proofs.PairLemmas.{all_of_range}
 

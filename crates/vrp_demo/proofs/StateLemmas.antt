@@ -1,7 +1,6 @@
 -- States of the generator.
-use Rattle.std.proofs.Common.{◌≡◌, ℕ, zero, suc, ◌+◌, ◌*◌, ◌%◌, ◌<◌, ◌≤◌, refl, sym, ap, ◌∙◌, subst, arith, add-one}
+use Rattle.std.proofs.Common.{◌≡◌, ℕ, zero, suc, ◌+◌, ◌≤◌, ap, ◌∙◌, arith}
 use Rattle.vrp_demo.specs.Draws.{next_state, state}
-use Rattle.vrp_demo.specs.Stops.{customer, customer_from, depot_from}
 
 pub state_small : (seed k : ℕ) → seed ≤ 65536 → state seed k ≤ 65536
 state_small seed zero h = h

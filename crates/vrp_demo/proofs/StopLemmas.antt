@@ -1,13 +1,12 @@
 -- The stops, one by one, and what holds of each.
-use Rattle.std.proofs.Common.{◌≡◌, ℕ, zero, suc, ◌+◌, ◌-◌, ◌*◌, ◌%◌, ◌<◌, ◌≤◌, Bool, true, false, List, length, map, refl, sym, ap, ◌∙◌, subst, arith, inl, inr}
-use Rattle.std.specs.Prelude.{nat_le, ◌&&◌, if◌then◌else◌}
-use Rattle.std.specs.List.{range_with_len}
+use Rattle.std.proofs.Common.{◌≡◌, ℕ, ◌+◌, ◌*◌, ◌%◌, ◌<◌, ◌≤◌, Bool, true, false, sym, ap, ◌∙◌, subst, arith, inl, inr}
+use Rattle.std.specs.Prelude.{if◌then◌else◌}
 use Rattle.std.proofs.lemmas.Bool.{cases_lt}
 use Rattle.std.proofs.lemmas.Bool.Decides.{nat_tests}
 use Rattle.std.proofs.lemmas.List.{get_or_past}
 use Rattle.std.proofs.lemmas.List.FromFn.{length-map-range_with_len, get_or-map-range_with_len}
 use Rattle.vrp_demo.specs.declared.stops.Stop.{Stop}
-use Rattle.vrp_demo.specs.Draws.{state, draw}
+use Rattle.vrp_demo.specs.Draws.{state}
 use Rattle.vrp_demo.specs.Stops.{depot_from, customer_from, customer, is_customer, stop_at, stops}
 use Rattle.vrp_demo.specs.Arcs.{stop_in}
 use Rattle.vrp_demo.specs.Sound.{StopFits, AreStops}

@@ -2,7 +2,6 @@ use Rattle.std.proofs.Common.{◌≡◌, ◌≤◌, ◌^◌, List, map, length, 
 use Rattle.std.specs.Prelude.{All}
 use Rattle.path_graph.specs.Parts.{GraphParts}
 use Rattle.route_model.specs.declared.parts.Var.{Var}
-use Rattle.route_model.specs.Parts.{ModelParts}
 use Rattle.route_model.specs.Fit.{ModelFits, cost_range}
 use Rattle.vrp_demo.specs.Arcs.{all_pairs, variable_over, AreIn}
 use Rattle.vrp_demo.proofs.GraphLemmas.{pairs_are_in, vertex_count}

@@ -1,13 +1,10 @@
-use Rattle.std.proofs.Common.{◌≡◌, List, map, sym, ap, ◌∙◌, subst, rules}
+use Rattle.std.proofs.Common.{◌≡◌, map, sym, ap, ◌∙◌, subst}
 use Rattle.std.specs.Prelude.{All}
-use Rattle.path_graph.specs.declared.parts.GraphArc.{GraphArc}
 use Rattle.path_graph.specs.declared.fault.GraphFault.{GraphFault}
-use Rattle.path_graph.specs.Fit.{PartsFit}
 use Rattle.path_graph.specs.Free.{HasNoFreeCycle}
 use Rattle.path_graph.specs.Ranking.{IsCycleFault}
-use Rattle.vrp_demo.specs.declared.arcs.Pair.{Pair}
 use Rattle.vrp_demo.specs.Arcs.{all_pairs, arc_over, AreIn}
-use Rattle.vrp_demo.specs.Network.{vertices, ends_of}
+use Rattle.vrp_demo.specs.Network.{vertices}
 use Rattle.vrp_demo.proofs.GraphLemmas.{pairs_are_in, graph_parts_fit, graph_acyclic}
 use Rattle.vrp_demo.proofs.network.graph_over.Goals as goal
 
