@@ -13,11 +13,16 @@ use Rattle.vrp_demo.specs.Arcs.{all_pairs, arc_over}
 abbrev pub set_of : ℕ → ℕ → Option ℕ
 set_of size v = if is_customer size v then Some (v - 1) else None
 
--- one main resource with window 0 to 10
+abbrev pub window_to : ℕ → Window
+window_to high = record { low = pos 0; high = pos high }
+
+-- one main resource with window 0 to 10; the other positions have no resource
 abbrev pub vertex_of : ℕ → ℕ → Vertex
 vertex_of size v =
-    let none : Window = record { low = pos 0; high = pos 0 } in
-    record { set = set_of size v; windows = record { low = pos 0; high = pos 10 } ∷ none ∷ none ∷ none ∷ none ∷ none ∷ [] }
+    record {
+      set = set_of size v;
+      windows = window_to 10 ∷ window_to 0 ∷ window_to 0 ∷ window_to 0 ∷ window_to 0 ∷ window_to 0 ∷ [];
+    }
 
 abbrev pub vertices : ℕ → List Vertex
 vertices size = map (vertex_of size) (range_with_len 0 (size + 2))

@@ -13,7 +13,9 @@ pub(crate) struct Pair {
     pub(crate) head: u32,
 }
 
-/// Whether an arc goes from the one vertex to the other: none goes from a vertex to itself, or from the source to the sink.
+/// Whether an arc goes from the one vertex to the other.
+///
+/// None goes from a vertex to itself, or from the source to the sink.
 fn is_arc(size: u32, tail: u32, head: u32) -> bool
     requires { size ≤ 100 }
     ensures { result ≡ is_arc size tail head }

@@ -51,8 +51,8 @@ fn model_over(alloc: Global, size: u32, stops: &[Stop], pairs: &[Pair]) -> Resul
 
 /// The model of a seed and a number of customers, the same for each call.
 ///
-/// The seed is 0 to 65,536 and the size 1 to 100. The depot and the customers lie on a grid of 100 by 100. A customer takes
-/// 1 to 4 units of load, a vehicle carries 10, and a path costs its length in steps along the grid. It has
+/// The seed is 0 to 65,536 and the size 1 to 100. The depot and the customers lie on a grid of 100 by 100. A customer
+/// takes 1 to 4 units of load, a vehicle carries 10, and a path costs its length in steps along the grid. There are
 /// size × (size + 1) arcs and variables. The only error is want of memory.
 pub fn make_model(alloc: Global, seed: u32, size: u32) -> Result<Model, NoMemory>
     requires seed { seed ≤ 65536 }
