@@ -1,0 +1,5 @@
+//! Tests of the generator of models.
+#![tactic(auto)]
+
+#[cfg(test)]
+mod made;
