@@ -1,0 +1,3 @@
+pub mod MasterLemmas
+pub mod WalkLemmas
+pub mod LineLemmas

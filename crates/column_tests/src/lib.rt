@@ -1,0 +1,5 @@
+//! Tests of column generation.
+#![tactic(auto)]
+
+#[cfg(test)]
+mod found;
