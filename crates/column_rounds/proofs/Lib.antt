@@ -1,3 +1,4 @@
 pub mod MasterLemmas
 pub mod WalkLemmas
 pub mod LineLemmas
+pub mod RoundLemmas

@@ -1,13 +1,12 @@
 -- Lemmas on the lines of near lists.
-use Rattle.std.proofs.Common.{◌≡◌, ℕ, ◌+◌, ◌<◌, ◌&&◌, ◌||◌, ◌==◌, not, nat_lt, ◌-◌, get_or, Bool, true, false, Option, None, Some, List, [], ◌∷◌, ◌++◌, All, length, ◌⊎◌, inl, inr, refl, sym, ◌∙◌, ap, subst, arith}
-use Rattle.std.specs.Prelude.{option_map, slice_get}
+use Rattle.std.proofs.Common.{◌≡◌, ℕ, ◌+◌, ◌<◌, ◌&&◌, ◌==◌, not, nat_lt, ◌-◌, get_or, Bool, true, false, Option, None, Some, List, [], ◌∷◌, ◌++◌, All, length, ◌⊎◌, inl, inr, refl, sym, ◌∙◌, ap, subst, arith}
+use Rattle.std.specs.Prelude.{option_map}
 use Rattle.std.specs.List.{range_with_len}
 use Rattle.std.proofs.lemmas.Bool.{eqb-true, false≢true, le-ltb, lt-ltb, ne_eqb, or_cases, or_left, or_right}
 use Rattle.std.proofs.lemmas.Option.{get_or_from_slice_get, slice_get_within}
 use Rattle.std.proofs.lemmas.List.Elements.{All-append, All-cons, All-nil, filter_passes}
 use Rattle.path_graph.specs.declared.set_bits.SetBits.{SetBits}
 use Rattle.path_graph.specs.SetBits.{IsMeet, IsWhole, IsWith, has_set}
-use Rattle.line_text.specs.Items.{EachAfter}
 use Rattle.model_text.specs.LineWords.{last_of}
 use Rattle.certificate.specs.declared.sizes.Sizes.{Sizes}
 use Rattle.certificate.specs.CertText.{NearMay, SetFits}
@@ -23,12 +22,12 @@ unfolding members
 sets_fit count near known both below meet whole = record {
   whole = whole;
   known = λ i d l.
-    let has = filter_passes (has_set both) (range_with_len 0 512) i d l in
-    below _ (and_right' (has_set near _) (has_set known _) (sym (meet _) ∙ has));
+      let has = filter_passes (has_set both) (range_with_len 0 512) i d l in
+      below _ (and_right' (has_set near _) (has_set known _) (sym (meet _) ∙ has));
 } where
-    and_right' : (a b : Bool) → (a && b) ≡ true → b ≡ true
-    and_right' true b e = e
-    and_right' false b e = absurd (false≢true e)
+  and_right' : (a b : Bool) → (a && b) ≡ true → b ≡ true
+  and_right' true b e = e
+  and_right' false b e = absurd (false≢true e)
 
 pub one_more_set : (count : ℕ) (set more : SetBits) → HasAllBelow count set → IsWith set count more → HasAllBelow (count + 1) more
 one_more_set count set more below with s has = elim (or_cases (has_set set s) (s == count) (sym (with s) ∙ has)) [
@@ -72,19 +71,20 @@ line_more s lines g v sets h graph vertex fits =
     widened : (line : ℕ × ℕ × SetBits) → IsBefore g v line → IsBefore g (v + 1) line
     widened line (inl less) = inl less
     widened line (inr same) = inr (same.0, omega (arith, same.1))
+
     further : All (IsBefore g (v + 1)) lines
     further i d l = widened (get_or lines i d) (h.before i d l)
 
 -- no line
 pub line_none : (s : Sizes) (lines : List (ℕ × ℕ × SetBits)) (g v : ℕ) → AreLinesBefore s lines g v → AreLinesBefore s lines g (v + 1)
 line_none s lines g v h = record { fits = h.fits; before = λ i d l. widened (get_or lines i d) (h.before i d l) } where
-    widened : (line : ℕ × ℕ × SetBits) → IsBefore g v line → IsBefore g (v + 1) line
-    widened line (inl less) = inl less
-    widened line (inr same) = inr (same.0, omega (arith, same.1))
+  widened : (line : ℕ × ℕ × SetBits) → IsBefore g v line → IsBefore g (v + 1) line
+  widened line (inl less) = inl less
+  widened line (inr same) = inr (same.0, omega (arith, same.1))
 
 -- all vertices of the graph were passed
 pub graph_passed : (s : Sizes) (lines : List (ℕ × ℕ × SetBits)) (g v : ℕ) → AreLinesBefore s lines g v → AreLinesBefore s lines (g + 1) 0
 graph_passed s lines g v h = record { fits = h.fits; before = λ i d l. passed (get_or lines i d) (h.before i d l) } where
-    passed : (line : ℕ × ℕ × SetBits) → IsBefore g v line → IsBefore (g + 1) 0 line
-    passed line (inl less) = inl (omega (arith, less))
-    passed line (inr same) = inl (omega (arith, same.0))
+  passed : (line : ℕ × ℕ × SetBits) → IsBefore g v line → IsBefore (g + 1) 0 line
+  passed line (inl less) = inl (omega (arith, less))
+  passed line (inr same) = inl (omega (arith, same.0))

@@ -7,7 +7,8 @@ use Rattle.route_model.specs.declared.places.Spot.{Spot}
 use Rattle.route_model.specs.declared.plan.Taken.{Taken}
 use Rattle.route_model.specs.Parts.{ModelParts, graph_in}
 use Rattle.pricing.specs.declared.half_table.HalfPair.{HalfPair}
-use Rattle.pricing.specs.Fields.{setting_in}
+use Rattle.ng_sets.specs.Near.{FitsGraphs}
+use Rattle.pricing.specs.Fields.{PlaceFits, setting_in}
 use Rattle.pricing.specs.Halves.{IsPairIn}
 use Rattle.pricing.specs.Outcomes.{EachHas}
 
@@ -15,6 +16,10 @@ use Rattle.pricing.specs.Outcomes.{EachHas}
 pub record IsWalkIn (m : ModelParts) (t : Taken) : Type 0 where
   pub graph : t.graph < length m.graphs
   pub feasible : IsFeasibleWalk (graph_in m.graphs t.graph) t.arcs
+
+-- prices of some multipliers at a place, without cuts
+abbrev pub ArePricesAt : ModelParts → Spot → Priced → Type 0
+ArePricesAt m spot p = (near : List (List SetBits)) → FitsGraphs near m.graphs → PlaceFits m spot p near [] []
 
 -- the half pair of each graph at a place, without cuts
 abbrev pub ArePairsAt : ModelParts → Spot → Priced → List (List SetBits) → List HalfPair → Type 0

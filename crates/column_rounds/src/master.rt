@@ -64,11 +64,7 @@ fn solved(alloc: Global, sides: &[Side], program: &[Column]) -> Result<Duals, No
 }
 
 /// The walks of the last basis, the marker, and the others: those that use no shut arc.
-fn open_walks(
-    alloc: Global,
-    task: &Task,
-    columns: &Columns,
-) -> Result<Vec<Option<u32>>, NoMemory>
+fn open_walks(alloc: Global, task: &Task, columns: &Columns) -> Result<Vec<Option<u32>>, NoMemory>
     requires spot { SpotFits task.now.model.now task.now.spot.now }
 {
     let mut is_basic = vec![in alloc; false; columns.pool.len() as usize]?;
@@ -108,7 +104,8 @@ fn is_open_walk(task: &Task, pool: &Pool, number: u32) -> bool
         return false;
     }
     let (graph, arcs) = pool.walk(number);
-    arcs.iter().all(|arc| is_open_arc(task.model, task.spot, graph, *arc))
+    arcs.iter()
+        .all(|arc| is_open_arc(task.model, task.spot, graph, *arc))
 }
 
 /// Whether an arc is there and not shut.

@@ -13,6 +13,7 @@ use std::alloc::Global;
 
 /// The greatest count of a walk that is tried, and the most walks of a plan.
 const MOST_COUNT: u32 = 4_096;
+
 const MOST_PATHS: usize = 1_000_000;
 
 /// A weight, rounded to the nearest whole number; none where that is no count of a walk in a plan.

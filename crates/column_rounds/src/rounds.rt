@@ -24,6 +24,7 @@ use std::alloc::Global;
 
 /// The most rounds at a place, and how often near lists are widened there.
 const MOST_ROUNDS: u32 = 10_000;
+
 const MOST_WIDENINGS: u32 = 16;
 
 /// What a round comes to: another may find more walks, or none does.
@@ -86,12 +87,7 @@ fn step_of(is_new: bool, state: State) -> Step
 }
 
 /// A round: the master over the walks that are known, a plan by its weights, and walks by its multipliers.
-fn round(
-    alloc: Global,
-    task: &Task,
-    columns: &mut Columns,
-    state: State,
-) -> Result<Step, NoMemory>
+fn round(alloc: Global, task: &Task, columns: &mut Columns, state: State) -> Result<Step, NoMemory>
     requires task { TaskFits task.now }
     requires columns { AreColumnsOf task.now.model.now columns.old }
     requires state { IsState task.now.model.now state }

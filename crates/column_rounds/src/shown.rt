@@ -1,14 +1,12 @@
 //! Walks of negative reduced cost at a place, as joins of half pairs show them.
 
 ghost use Rattle.std.specs.Prelude.{◌≡◌, ℤ, ◌<◌, ◌≤◌, [], All, IfOk, IfSome, length};
-ghost use Rattle.route_model.specs.Fit.{ModelFits};
 ghost use Rattle.route_model.specs.Places.{SpotFits};
 ghost use Rattle.ng_sets.specs.Near.{FitsGraphs};
 ghost use Rattle.multipliers.specs.Ranges.{MultFits};
 ghost use Rattle.pricing.specs.Fields.{PlaceFits, setting_in};
 ghost use Rattle.pricing.specs.Halves.{IsPairIn};
-ghost use Rattle.pricing.specs.Outcomes.{EachHas};
-ghost use Rattle.column_rounds.specs.Walks.{ArePairsAt, IsWalkIn};
+ghost use Rattle.column_rounds.specs.Walks.{ArePairsAt, ArePricesAt, IsWalkIn};
 
 use crate::task::Task;
 use multipliers::priced;
@@ -21,6 +19,7 @@ use std::alloc::Global;
 
 /// The most walks that are taken of a graph in a round, and the most of them that visit the same packing set.
 const MOST_WALKS: u32 = 60;
+
 const MOST_OF_A_SET: u32 = 10;
 
 /// The prices of multipliers; none where one needs an open side.
@@ -28,8 +27,7 @@ fn prices_of(alloc: Global, task: &Task, mult: &Mult) -> Result<Option<Priced>, 
     requires spot { SpotFits task.now.model.now task.now.spot.now }
     requires mult { MultFits task.now.model.now mult.now }
     requires no_cuts { mult.now.cuts ≡ [] }
-    ensures { IfOk result (λ prices. IfSome prices (λ p. (near : List (List SetBits)) → FitsGraphs near task.now.model.now.graphs
-        → PlaceFits task.now.model.now task.now.spot.now p near [] [])) }
+    ensures { IfOk result (λ prices. IfSome prices (ArePricesAt task.now.model.now task.now.spot.now)) }
 {
     let spot = task.spot;
     match priced(alloc, task.model, &spot.boxes, &[], mult) {
@@ -96,9 +94,10 @@ fn walks_of(
     requires pairs { ArePairsAt task.now.model.now task.now.spot.now prices.now near.now pairs.now }
     ensures { IfOk result (λ walks. All (IsWalkIn task.now.model.now) walks.items) }
 {
+    let model = task.model;
     let mut walks = Vec::new(alloc);
-    for (graph, pair) in pairs.iter().enumerate() {
-        let found = graph_walks(alloc, task, near, prices, graph as u32, pair)?;
+    for graph in 0..model.graphs.len() {
+        let found = graph_walks(alloc, task, near, prices, graph as u32, &pairs[graph])?;
         walks.append(&mut found.into_vec())?;
     }
     Ok(walks)

@@ -3,3 +3,5 @@
 
 #[cfg(test)]
 mod found;
+#[cfg(test)]
+mod widening;

@@ -1,6 +1,5 @@
-use Rattle.std.proofs.Common.{ap, subst}
+use Rattle.std.proofs.Common.{subst}
 use Rattle.route_model.specs.Fit.{ModelFits}
-use Rattle.route_model.specs.Parts.{ModelParts}
 use Rattle.column_rounds.proofs.MasterLemmas.{few_places}
 use Rattle.column_rounds.proofs.master.column_of.Goals as goal
 
