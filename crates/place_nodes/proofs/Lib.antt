@@ -1,3 +1,4 @@
+pub mod NearLemmas
 pub mod BasisLemmas
 pub mod ProofLemmas
 pub mod BoundLemmas

@@ -15,8 +15,10 @@ use Rattle.made_nodes.proofs.MadeLemmas.{made_children_fit}
 use Rattle.search_tree.specs.declared.places.OpenPlace.{OpenPlace}
 use Rattle.search_tree.specs.Places.{IsOpenIn, all_valued, valued}
 use Rattle.place_nodes.specs.declared.task.Task.{Task}
-use Rattle.place_nodes.specs.Tasks.{TaskFits}
-use Rattle.place_nodes.specs.Worked.{IsNodeAt, IsSplitWhereCutOff, at_place}
+use Rattle.place_nodes.specs.declared.work.Worked.{Worked}
+use Rattle.place_nodes.specs.declared.work.Worked.TheVariants.{Memory, Node, Wall}
+use Rattle.place_nodes.specs.Tasks.{IsPricedAt, IsWorkedAt, TaskFits}
+use Rattle.place_nodes.specs.Worked.{IsNodeAt, IsNodeOf, IsSplitWhereCutOff, at_place}
 
 -- what holds of each item holds of each with a value
 each_valued : (P : Item → Type 0) (items : List Item) (value : ℤ) → HoldsForEach P items → All (λ (x : Valued). P x.item) (map (λ (item : Item). let x : Valued = record { item = item; value = value } in x) items)
@@ -35,10 +37,9 @@ each_back P xs all i d l =
     subst P (sym (get_or-reverse xs i d inside)) (all _ d (omega (arith, inside)))
 
 -- of a task
-pub node_at : (t : Task) (made : MadeNode) (opened : List OpenPlace) → TaskFits t → IsMade t.model.now t.z (AtPlace t.spot.now) made → StaysOpen t.z made
-    → all_valued (reverse opened) ≡ made_children t.model.now (at_place t.spot.now t.value) made → IsSplitWhereCutOff t.model.now t.limit t.spot.now t.z made.form
-    → IsNodeAt t.model.now t.spot.now t.value t.z t.limit made opened
-node_at t made opened fits stands stays opens form =
+pub node_of_task : (t : Task) (made : MadeNode) (opened : List OpenPlace) → TaskFits t → IsMade t.model.now t.z (AtPlace t.spot.now) made → StaysOpen t.z made
+    → all_valued (reverse opened) ≡ made_children t.model.now (at_place t.spot.now t.value) made → IsNodeOf t.model.now t.spot.now t.value t.z made opened
+node_of_task t made opened fits stands stays opens =
     let m = t.model.now in
     let each = each_valued (ItemFits m) (children_of m (AtPlace t.spot.now) (node_of m made.form)) _ (made_children_fit m t.z (AtPlace t.spot.now) made fits.model fits.spot stands) in
     let back = each_open m (reverse opened) (subst (All (λ (x : Valued). ItemFits m x.item)) (sym opens) each) in
@@ -47,5 +48,15 @@ node_at t made opened fits stands stays opens form =
       stays = stays;
       opens = opens;
       fit = subst (All (IsOpenIn m)) (reverse-reverse opened) (each_back (IsOpenIn m) (reverse opened) back);
-      form = form;
     }
+
+pub node_at : (t : Task) (made : MadeNode) (opened : List OpenPlace) → TaskFits t → IsMade t.model.now t.z (AtPlace t.spot.now) made → StaysOpen t.z made
+    → all_valued (reverse opened) ≡ made_children t.model.now (at_place t.spot.now t.value) made → IsSplitWhereCutOff t.model.now t.limit t.spot.now t.z made.form
+    → IsNodeAt t.model.now t.spot.now t.value t.z t.limit made opened
+node_at t made opened fits stands stays opens form = record { node = node_of_task t made opened fits stands stays opens; form = form }
+
+-- what comes of a task as it was worked, where a split may be given
+pub priced_from : (t : Task) (w : Worked) → IsWorkedAt t w → IsPricedAt t w
+priced_from t (Node made opened) is = is.node
+priced_from t (Wall wall) is = is
+priced_from t Memory is = tt

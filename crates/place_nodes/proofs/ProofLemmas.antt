@@ -26,7 +26,7 @@ use Rattle.place_nodes.specs.declared.proof.Known.{Known}
 use Rattle.place_nodes.specs.declared.task.Task.{Task}
 use Rattle.place_nodes.specs.Proofs.{IsPlaceProof}
 use Rattle.place_nodes.specs.Tasks.{AreBothTables, IsBasis, TaskFits, setting_by}
-use Rattle.place_nodes.proofs.BasisLemmas.{basis_cuts, no_cuts_fit}
+use Rattle.place_nodes.proofs.BasisLemmas.{basis_cuts, basis_shape, no_cuts_fit}
 
 -- the exact least is one
 least_both : (S : Setting) (fore back : List Label) (least : Option ℤ) → IsExactLeast S Both fore back least → IsLeast S Both fore back least
@@ -43,10 +43,10 @@ may_join S form fore back is closed near i d l =
     let both = subst (λ (f : Form). IsTable S f fore back) is closed in
     record { windows = both.1.windows i d l; states = both.1.cover.states i d l; cost = near i d l }
 
--- the proof with near lists that say nothing
-abbrev pub known_by : Basis → List (ℕ × ℕ × SetBits) → List ProofTable → Known
-known_by b lines tables = record {
-  proof = record { mult = b.mult; cuts = b.cuts; near = lines; tables = tables };
+-- the proof with the near lists of the lines
+abbrev pub known_by : Basis → List ProofTable → Known
+known_by b tables = record {
+  proof = record { mult = b.mult; cuts = b.cuts; near = b.lines; tables = tables };
   priced = b.priced;
   near = b.near;
 }
@@ -57,7 +57,7 @@ module _ (t : Task) (b : Basis) (tables : List ProofTable) (fits : TaskFits t) (
   parts = t.model.now
 
   abbrev proof : Proof
-  proof = (known_by b [] tables).proof
+  proof = (known_by b tables).proof
 
   abbrev none : ProofTable
   none = record { graph = 0; form = text.Full; least = None; fore = []; back = [] }
@@ -111,7 +111,7 @@ module _ (t : Task) (b : Basis) (tables : List ProofTable) (fits : TaskFits t) (
         weights = record { count = cuts.count; each = cuts.each_mult };
         cuts = subst (All (CutIsKnown parts.sets)) (sym is.none) (All-nil (CutIsKnown parts.sets));
         few_cuts = cuts.few;
-        near = tt;
+        near = is.told;
         tables = stand.0;
         labels = stand.1;
       }
@@ -125,7 +125,7 @@ module _ (t : Task) (b : Basis) (tables : List ProofTable) (fits : TaskFits t) (
     weights = refl;
     priced_is = is.prices;
     range = is.range;
-    near_fits = is.shape;
+    near_fits = basis_shape parts t.spot.now b is;
     count = size;
     rests = λ g l.
         let below : g < length tables = omega (arith, l, size) in
@@ -138,8 +138,5 @@ module _ (t : Task) (b : Basis) (tables : List ProofTable) (fits : TaskFits t) (
   with_parts : IsProofWith parts t.spot.now b.priced b.near b.cuts b.mult.cuts tables (proof_of parts proof)
   with_parts = record { weights = refl; priced_is = is.prices; cuts_same = refl; near_same = sym is.lists; tables_same = refl }
 
-  place_proof : IsPlaceProof parts t.spot.now (known_by b [] tables)
+  pub place_proof : IsPlaceProof parts t.spot.now (known_by b tables)
   place_proof = record { stands = stands; both = both; told = told_proof; fits = listing; parts = with_parts }
-
-  pub place_proof_by : (lines : List (ℕ × ℕ × SetBits)) → lines ≡ [] → IsPlaceProof parts t.spot.now (known_by b lines tables)
-  place_proof_by lines none = subst (λ (ls : List (ℕ × ℕ × SetBits)). IsPlaceProof parts t.spot.now (known_by b ls tables)) (sym none) place_proof

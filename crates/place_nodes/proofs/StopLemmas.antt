@@ -1,7 +1,6 @@
 -- Where a place stops: at a table of a graph, or at the list of its walks.
-use Rattle.std.proofs.Common.{◌≡◌, ℕ, Bool, ℤ, List, [], map, sym, ◌∙◌, subst}
+use Rattle.std.proofs.Common.{◌≡◌, ℕ, Bool, ℤ, List, map, sym, ◌∙◌, subst}
 use Rattle.std.proofs.lemmas.List.{length-map}
-use Rattle.path_graph.specs.declared.set_bits.SetBits.{SetBits}
 use Rattle.route_model.specs.declared.places.Spot.{Spot}
 use Rattle.label_core.specs.declared.table.Table.{Table as Filled}
 use Rattle.label_rules.specs.declared.label.Label.{Label}
@@ -25,14 +24,13 @@ use Rattle.place_nodes.specs.Worked.{HasCutOff}
 use Rattle.place_nodes.proofs.BasisLemmas.{no_cuts_fit}
 
 -- a table
-pub table_stops : (t : Task) (b : Basis) (g : ℕ) (is_backward : Bool) (table : Filled Label) (spot : Spot) (lines : List (ℕ × ℕ × SetBits)) (tables : List ProofTable)
-    → TaskFits t → IsBasis t.model.now t.spot.now b → IsWallIn (graphs_of t) (setting_by t b) t.limit g is_backward table → spot ≡ t.spot.now → lines ≡ []
-    → IsLabelWall t.model.now t.limit (wall.Table g is_backward spot (record { mult = b.mult; cuts = b.cuts; near = lines; tables = tables }) table)
-table_stops t b g is_backward table spot lines tables fits is stops same none =
-    subst (λ (s : Spot). IsTableWall t.model.now t.limit g (direction_of is_backward) s (near_lists t.model.now lines) b.cuts b.mult table.cells) (sym same)
-    (subst (λ (ls : List (ℕ × ℕ × SetBits)). IsTableWall t.model.now t.limit g (direction_of is_backward) t.spot.now (near_lists t.model.now ls) b.cuts b.mult table.cells) (sym none) here)
+pub table_stops : (t : Task) (b : Basis) (g : ℕ) (is_backward : Bool) (table : Filled Label) (spot : Spot) (tables : List ProofTable)
+    → TaskFits t → IsBasis t.model.now t.spot.now b → IsWallIn (graphs_of t) (setting_by t b) t.limit g is_backward table → spot ≡ t.spot.now
+    → IsLabelWall t.model.now t.limit (wall.Table g is_backward spot (record { mult = b.mult; cuts = b.cuts; near = b.lines; tables = tables }) table)
+table_stops t b g is_backward table spot tables fits is stops same =
+    subst (λ (s : Spot). IsTableWall t.model.now t.limit g (direction_of is_backward) s (near_lists t.model.now b.lines) b.cuts b.mult table.cells) (sym same) here
   where
-    here : IsTableWall t.model.now t.limit g (direction_of is_backward) t.spot.now (near_lists t.model.now []) b.cuts b.mult table.cells
+    here : IsTableWall t.model.now t.limit g (direction_of is_backward) t.spot.now (near_lists t.model.now b.lines) b.cuts b.mult table.cells
     here = record {
       place = fits.spot;
       graph = stops.graph;

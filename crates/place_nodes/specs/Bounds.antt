@@ -7,7 +7,10 @@ use Rattle.safe_bound.specs.Bounds.{Closes}
 use Rattle.proof_rules.specs.Proofs.{ClosesAgainst, bound_at}
 use Rattle.place_nodes.specs.declared.proof.Known.{Known}
 use Rattle.place_nodes.specs.declared.task.Task.{Task}
-use Rattle.place_nodes.specs.Proofs.{proof_in}
+use Rattle.place_nodes.specs.declared.tabled.Bounded.{Bounded}
+use Rattle.place_nodes.specs.declared.tabled.Bounded.TheVariants.{Ends, Open}
+use Rattle.place_nodes.specs.Proofs.{IsPlaceProof, proof_in}
+use Rattle.place_nodes.specs.Tasks.{IsWorkedAt}
 
 -- a bound closes against z; or this is its value, which does not
 abbrev pub IsOpenValue : Bound → ℤ → Option ℤ → Type 0
@@ -22,3 +25,8 @@ pub record IsOpenBound (t : Task) (k : Known) (b : ℤ) : Type 0 where
 abbrev pub LeavesOpen : Task → Known → Option ℤ → Type 0
 LeavesOpen t k None = ClosesAgainst t.z (bound_at t.model.now t.spot.now (proof_in t k))
 LeavesOpen t k (Some b) = IsOpenBound t k b
+
+-- what the tables of a place tell: its node or a wall; or a proof that leaves it open, with its bound
+abbrev pub IsBounded : Task → Bounded → Type 0
+IsBounded t (Ends worked) = IsWorkedAt t worked
+IsBounded t (Open known b) = IsPlaceProof t.model.now t.spot.now known × IsOpenBound t known b

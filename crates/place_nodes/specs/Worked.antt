@@ -35,14 +35,24 @@ IsSplitWhereCutOff m limit spot z (node.List p tries) = Unit {0}
 IsSplitWhereCutOff m limit spot z form = ⊥
 
 -- the node stands at the place against z and was needed, and these are the places that it opens, the last of them first
-pub record IsNodeAt (m : ModelParts) (spot : Spot) (value z : ℤ) (limit : ℕ) (made : MadeNode) (opened : List OpenPlace) : Type 0 where
+pub record IsNodeOf (m : ModelParts) (spot : Spot) (value z : ℤ) (made : MadeNode) (opened : List OpenPlace) : Type 0 where
   pub stands : IsMade m z (AtPlace spot) made
   pub stays : StaysOpen z made
   pub opens : all_valued (reverse opened) ≡ made_children m (at_place spot value) made
   pub fit : All (IsOpenIn m) opened
+
+-- and it splits the place only where a list was cut off
+pub record IsNodeAt (m : ModelParts) (spot : Spot) (value z : ℤ) (limit : ℕ) (made : MadeNode) (opened : List OpenPlace) : Type 0 where
+  pub node : IsNodeOf m spot value z made opened
   pub form : IsSplitWhereCutOff m limit spot z made.form
 
 abbrev pub IsWorked : ModelParts → Spot → ℤ → ℤ → ℕ → Worked → Type 0
 IsWorked m spot value z limit (Node made opened) = IsNodeAt m spot value z limit made opened.items
 IsWorked m spot value z limit (Wall wall) = IsLabelWall m limit wall
 IsWorked m spot value z limit Memory = Unit {0}
+
+-- what comes of it where a split may be given beforehand
+abbrev pub IsPricedWork : ModelParts → Spot → ℤ → ℤ → ℕ → Worked → Type 0
+IsPricedWork m spot value z limit (Node made opened) = IsNodeOf m spot value z made opened.items
+IsPricedWork m spot value z limit (Wall wall) = IsLabelWall m limit wall
+IsPricedWork m spot value z limit Memory = Unit {0}

@@ -3,15 +3,17 @@
 
 mod bound;
 mod list;
-mod near;
+mod priced_work;
 mod prices;
 mod proof;
 mod split;
 mod stops;
+mod tabled;
 mod task;
 mod values;
 mod wall;
 mod work;
 
+pub use priced_work::work_priced;
 pub use wall::LabelWall;
 pub use work::{Worked, work_place};

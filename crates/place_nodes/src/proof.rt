@@ -46,17 +46,18 @@ pub(crate) fn tables_of(alloc: Global, task: &Task, basis: &Basis) -> TablesOut
 }
 
 /// The proof that closed tables are.
-pub(crate) fn known_of(alloc: Global, task: &Task, basis: Basis, tables: List<ProofTable>) -> Known
+pub(crate) fn known_of(task: &Task, basis: Basis, tables: List<ProofTable>) -> Known
     requires task { TaskFits task.now }
     requires basis { IsBasis task.now.model.now task.now.spot.now basis }
     requires tables { AreBothTables task.now basis tables }
     requires told { AreTold (sizes_of task.now.model.now) (length basis.cuts) task.now.limit tables }
     ensures { IsPlaceProof task.now.model.now task.now.spot.now result }
 {
+    let _limit = task.limit;
     let proof = Proof {
         mult: basis.mult,
         cuts: basis.cuts,
-        near: List::new(alloc),
+        near: basis.lines,
         tables,
     };
     Known {

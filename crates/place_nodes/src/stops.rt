@@ -37,7 +37,7 @@ pub(crate) fn table_wall(
             let proof = Proof {
                 mult: basis.mult,
                 cuts: basis.cuts,
-                near: List::new(alloc),
+                near: basis.lines,
                 tables: List::new(alloc),
             };
             Worked::Wall(LabelWall::Table(graph, is_backward, spot, proof, table))

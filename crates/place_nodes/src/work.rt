@@ -1,25 +1,24 @@
-ghost use Rattle.std.specs.Prelude.{◌≡◌, ◌≤◌, ◌≤ℤ◌, None};
+ghost use Rattle.std.specs.Prelude.{◌≤◌, ◌≤ℤ◌};
 ghost use Rattle.route_model.specs.Costs.{cost_above_all};
 ghost use Rattle.route_model.specs.Places.{SpotFits};
 ghost use Rattle.certificate.specs.declared.limits.TheConstants.{MAX_LABELS};
 ghost use Rattle.walk_list.specs.Listings.{AreCutOff};
-ghost use Rattle.place_nodes.specs.Bounds.{IsOpenBound, LeavesOpen};
+ghost use Rattle.place_nodes.specs.Bounds.{IsBounded, IsOpenBound};
 ghost use Rattle.place_nodes.specs.Proofs.{IsOf, IsPlaceProof};
-ghost use Rattle.place_nodes.specs.Tasks.{IsBasis, IsWorkedAt, TaskFits};
+ghost use Rattle.place_nodes.specs.Tasks.{IsWorkedAt, TaskFits};
 ghost use Rattle.place_nodes.specs.Worked.{IsWorked};
 
-use crate::bound::open_bound;
 use crate::list::{list_node, trees_of};
-use crate::prices::{Basis, basis_of};
-use crate::proof::{Known, known_of, tables_of};
-use crate::split::{first_wide, split_node};
-use crate::stops::{list_wall, table_wall};
+use crate::prices::plain_basis;
+use crate::proof::Known;
+use crate::split::{first_wide, split_node, split_of};
+use crate::stops::list_wall;
+use crate::tabled::{Bounded, by_tables};
 use crate::task::Task;
 use crate::wall::LabelWall;
-use certificate::{NodeForm, Trie};
+use certificate::Trie;
 use made_nodes::MadeNode;
 use path_graph::List;
-use pricing::TablesOut;
 use route_model::{Model, Spot};
 use search_tree::OpenPlace;
 use std::alloc::Global;
@@ -65,59 +64,30 @@ pub fn work_place(
 }
 
 /// The same of a task.
-fn work(alloc: Global, task: &Task) -> Worked
+pub(crate) fn work(alloc: Global, task: &Task) -> Worked
     requires { TaskFits task.now }
     ensures { IsWorkedAt task.now result }
 {
-    match basis_of(alloc, task) {
+    match plain_basis(alloc, task) {
         Err(_) => Worked::Memory,
-        Ok(basis) => by_tables(alloc, task, basis),
+        Ok(basis) => by_lists(alloc, task, by_tables(alloc, task, basis)),
     }
 }
 
-/// Fills the tables of the place.
-fn by_tables(alloc: Global, task: &Task, basis: Basis) -> Worked
+/// Lists the walks of a place that its tables leave open.
+fn by_lists(alloc: Global, task: &Task, bounded: Bounded) -> Worked
     requires task { TaskFits task.now }
-    requires basis { IsBasis task.now.model.now task.now.spot.now basis }
+    requires bounded { IsBounded task.now bounded }
     ensures { IsWorkedAt task.now result }
 {
-    match tables_of(alloc, task, &basis) {
-        TablesOut::Memory => Worked::Memory,
-        TablesOut::Wall(graph, is_backward, table) => {
-            table_wall(alloc, task, basis, graph, is_backward, table)
-        }
-        TablesOut::Tables(tables, _) => {
-            by_proof(alloc, task, known_of(alloc, task, basis, tables))
-        }
+    match bounded {
+        Bounded::Ends(worked) => worked,
+        Bounded::Open(known, bound) => by_trees(alloc, task, known, bound),
     }
-}
-
-/// Closes the place, or lists its walks.
-fn by_proof(alloc: Global, task: &Task, known: Known) -> Worked
-    requires task { TaskFits task.now }
-    requires known { IsPlaceProof task.now.model.now task.now.spot.now known }
-    ensures { IsWorkedAt task.now result }
-{
-    match open_bound(alloc, task, &known) {
-        Err(_) => Worked::Memory,
-        Ok(None) => close_node(alloc, task, known),
-        Ok(Some(bound)) => by_trees(alloc, task, known, bound),
-    }
-}
-
-/// A node that closes the place.
-fn close_node(alloc: Global, task: &Task, known: Known) -> Worked
-    requires task { TaskFits task.now }
-    requires known { IsPlaceProof task.now.model.now task.now.spot.now known }
-    requires closed { LeavesOpen task.now known None }
-    ensures { IsWorkedAt task.now result }
-{
-    let form = NodeForm::Close(known.proof);
-    Worked::Node(MadeNode { form, bound: 0 }, Vec::new(alloc))
 }
 
 /// Lists the walks of the place.
-fn by_trees(alloc: Global, task: &Task, known: Known, bound: i128) -> Worked
+pub(crate) fn by_trees(alloc: Global, task: &Task, known: Known, bound: i128) -> Worked
     requires task { TaskFits task.now }
     requires known { IsPlaceProof task.now.model.now task.now.spot.now known }
     requires bound { IsOpenBound task.now known bound }
@@ -141,6 +111,6 @@ fn cut_off(alloc: Global, task: &Task, known: Known, bound: i128, tries: List<Tr
     let spot = task.spot;
     match first_wide(spot.boxes.vars.as_slice()) {
         None => list_wall(alloc, task, known, tries),
-        Some(j) => split_node(alloc, task, known, bound, j),
+        Some(j) => split_node(alloc, task, known, bound, split_of(spot, j)),
     }
 }

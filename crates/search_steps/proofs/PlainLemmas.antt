@@ -122,7 +122,7 @@ listed_tree m z budget nodes made opened front place below g fits many at are gr
 
 -- the node of the root, as one that lists walks
 pub listed_root : (m : ModelParts) (z : ℤ) (labels : ℕ) (made : MadeNode) (opened : List OpenPlace) → IsNodeAt m (root_place m) (least_box_cost m) z labels made opened → Lists made.form → IsListedRoot m z made opened
-listed_root m z labels made opened at lists = record { stands = at.stands; stays = at.stays; opens = at.opens; fit = at.fit; lists = lists }
+listed_root m z labels made opened at lists = record { stands = at.node.stands; stays = at.node.stays; opens = at.node.opens; fit = at.node.fit; lists = lists }
 
 -- a node that closes the root
 closes_root : (m : ModelParts) (form : NodeForm) (bound z : ℤ) (limit : ℕ) (vs : List Valued) → ¬ (Lists form) → ¬ (Splits form) → IsSplitWhereCutOff m limit (root_place m) z form
@@ -148,8 +148,8 @@ same_place m at root z budget g is grown = record {
 pub closed_tree : (m : ModelParts) (z : ℤ) (labels nodes : ℕ) (made : MadeNode) (opened : List OpenPlace) (g : Grown) → 1 ≤ nodes → IsNodeAt m (root_place m) (least_box_cost m) z labels made opened → ¬ (Lists made.form) → ¬ (Splits made.form)
     → IsOneNode made opened z g → IsTreeBelowRoot m z nodes g
 closed_tree m z labels nodes made opened g some at other split one = record {
-  grown = λ root is. same_place m (place_at (root_place m) (least_box_cost m)) root z nodes g is (one_grown m (root_place m) (least_box_cost m) z labels nodes made opened g some at one);
-  passes = inl (one.rest ∙ none_open opened (closes_root m made.form made.bound z labels (all_valued (reverse opened)) other split at.form at.opens));
+  grown = λ root is. same_place m (place_at (root_place m) (least_box_cost m)) root z nodes g is (one_grown m (root_place m) (least_box_cost m) z nodes made opened g some at.node one);
+  passes = inl (one.rest ∙ none_open opened (closes_root m made.form made.bound z labels (all_valued (reverse opened)) other split at.form at.node.opens));
 }
 
 -- what is told

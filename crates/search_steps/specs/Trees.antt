@@ -1,5 +1,7 @@
 -- Trees that are put together from a node, and a tree over counts below it.
 use Rattle.std.specs.Prelude.{◌≡◌, ◌⊎◌, ℕ, ◌≤◌, ℤ, None, List, [], ◌∷◌, length, reverse, All}
+use Rattle.std.specs.declared.alloc.Global.{Global}
+use Rattle.std.specs.declared.rc.Rc.{Rc}
 use Rattle.route_model.specs.declared.places.Span.{Span}
 use Rattle.route_model.specs.declared.places.Spot.{Spot}
 use Rattle.route_model.specs.Parts.{ModelParts}
@@ -13,13 +15,16 @@ use Rattle.made_nodes.specs.Made.{StaysOpen, made_rules}
 use Rattle.count_trees.specs.Growth.{at_counts}
 use Rattle.search_tree.specs.declared.growing.Grown.{Grown}
 use Rattle.search_tree.specs.declared.places.Listing.{Listing}
-use Rattle.search_tree.specs.declared.places.OpenItem.TheVariants.{Place}
+use Rattle.search_tree.specs.declared.places.OpenItem.TheVariants.{Counts, Place}
 use Rattle.search_tree.specs.declared.places.OpenPlace.{OpenPlace}
 use Rattle.search_tree.specs.Places.{IsOpenIn, all_valued}
 
--- an open place with a value, and the walks of a listing
+-- an open place, or open counts, with a value, and the walks of a listing
 abbrev pub place_at : Spot → ℤ → OpenPlace
 place_at spot value = record { item = Place spot; value = value }
+
+abbrev pub counts_at : Rc Listing Global → List Span → ℤ → OpenPlace
+counts_at listing boxes value = record { item = Counts listing boxes; value = value }
 
 abbrev pub walks_in : Listing → List Walk
 walks_in listing = walks_said listing.walks

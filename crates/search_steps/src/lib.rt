@@ -7,4 +7,4 @@ mod plain;
 mod stepping;
 
 pub use plain::{Plain, plain_tree};
-pub use stepping::{Stepped, grow_at};
+pub use stepping::{Stepped, grow_listed, grow_place};

@@ -4,3 +4,4 @@ pub mod BestLemmas
 pub mod ToldLemmas
 pub mod EndLemmas
 pub mod RoundLemmas
+pub mod ChosenLemmas

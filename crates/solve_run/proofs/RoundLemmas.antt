@@ -1,9 +1,10 @@
 -- A round leaves a search with less to do.
-use Rattle.std.proofs.Common.{◌≡◌, ◌≢◌, ℕ, ◌+◌, ◌<◌, ◌≤◌, ℤ, true, false, Option, None, Some, List, [], ◌∷◌, All, length, refl, ap, ◌∙◌, Vec, Global, arith}
-use Rattle.std.specs.Prelude.{◌↔◌}
+use Rattle.std.proofs.Common.{◌≡◌, ◌≢◌, ℕ, ◌+◌, ◌<◌, ◌≤◌, ℤ, ◌≤ℤ◌, true, false, Option, None, Some, List, [], ◌∷◌, All, length, refl, ap, ◌∙◌, Vec, Global, arith}
+use Rattle.std.specs.Prelude.{◌↔◌, Err, IfOk, Ok, Result}
 use Rattle.std.proofs.lemmas.Int.{ints}
 use Rattle.std.proofs.lemmas.List.Elements.{All-cons, All-nil}
 use Rattle.route_model.specs.declared.plan.Plan.{Plan}
+use Rattle.route_model.specs.Costs.{cost_above_all}
 use Rattle.route_model.specs.Fit.{ModelFits}
 use Rattle.route_model.specs.Parts.{ModelParts}
 use Rattle.proof_rules.specs.OpenTrees.{Valued}
@@ -20,7 +21,9 @@ use Rattle.search_tree.specs.Grown.{IsGrownAt}
 use Rattle.search_tree.specs.Places.{all_valued, valued}
 use Rattle.search_tree.specs.Search.{IsSearch, made_in}
 use Rattle.solve_run.specs.declared.outcome.Limits.{Limits}
-use Rattle.solve_run.specs.Rounds.{GoesOn, HasOpenAt, IsWithin}
+use Rattle.solve_run.specs.declared.rounds.Next.{Next}
+use Rattle.solve_run.specs.declared.rounds.Next.TheVariants.{Ends, Goes}
+use Rattle.solve_run.specs.Rounds.{GoesOn, HasOpenAt, IsKept, IsRound, IsWithin}
 use Rattle.solve_run.specs.Work.{work_left}
 use Rattle.solve_run.proofs.WorkLemmas.{least_below, work_cheaper, work_more, work_tested}
 
@@ -57,6 +60,30 @@ better_goes m limits old new plan z fits within search better slots is =
       within = record { search = search; few = let same = ap (λ (s : Vec (Slot OpenPlace MadeNode) Global). length (mades s.items)) slots in omega (arith, same, within.few) };
       less = work_cheaper m limits.nodes old new (least_below m new.best new.z fits search.better) (omega (arith, ints, is));
     }
+
+-- where one was found beside a place that gives way, the slots stay as they are
+pub kept_same : (m : ModelParts) (limits : Limits) (s : Search) → IsWithin m limits s → IsKept m limits s s
+kept_same m limits s within = record { within = within; slots = refl; most = omega arith }
+
+pub kept_better : (m : ModelParts) (limits : Limits) (old new : Search) (plan : Plan) (z : ℤ) → ModelFits m → IsWithin m limits old → IsSearch m new → IsBetter m old.z (Some plan) z → new.slots ≡ old.slots → new.z ≡ z → IsKept m limits old new
+kept_better m limits old new plan z fits within search better slots is =
+    let goes = better_goes m limits old new plan z fits within search better slots is in
+    let less = goes.less in
+    record { within = goes.within; slots = slots; most = omega (arith, less) }
+
+-- what comes of a round of the one is what comes of the other
+pub round_from : (m : ModelParts) (limits : Limits) (old mid : Search) (next : Next) → work_left m limits.nodes mid ≤ work_left m limits.nodes old → IsRound m limits mid next → IsRound m limits old next
+round_from m limits old mid (Goes new) most goes = let less = goes.less in record { within = goes.within; less = omega (arith, less, most) }
+round_from m limits old mid (Ends outcome) most ending = ending
+
+pub each_round_from : {E : Type 0} (m : ModelParts) (limits : Limits) (old mid : Search) (r : Result Next E) → work_left m limits.nodes mid ≤ work_left m limits.nodes old → IfOk r (IsRound m limits mid) → IfOk r (IsRound m limits old)
+each_round_from m limits old mid (Ok next) most round = round_from m limits old mid next most round
+each_round_from m limits old mid (Err e) most round = tt
+
+-- a cost to beat is at most above all costs
+pub most_cost : (m : ModelParts) (best : Option Plan) (z : ℤ) → IsBetter m (cost_above_all m) best z → z ≤ℤ cost_above_all m
+most_cost m None z better = omega (arith, ints, better)
+most_cost m (Some plan) z better = omega (arith, ints, better.3)
 
 -- a place is open
 pub some_open : (slots : List (Slot OpenPlace MadeNode)) (at : ℕ) → HasOpenAt slots at → opens slots ≢ []

@@ -5,3 +5,4 @@ pub mod Outcomes
 pub mod Told
 pub mod Work
 pub mod Rounds
+pub mod Chosen

@@ -1,5 +1,5 @@
 -- What a round of a search comes to: it goes on, with less left to do, or it ends.
-use Rattle.std.specs.Prelude.{◌≡◌, ◌≢◌, ◌⊎◌, ℕ, ◌<◌, ◌≤◌, ℤ, true, List, []}
+use Rattle.std.specs.Prelude.{◌≡◌, ◌≢◌, ◌⊎◌, ℕ, ◌+◌, ◌<◌, ◌≤◌, ℤ, true, List, []}
 use Rattle.route_model.specs.Parts.{ModelParts}
 use Rattle.proof_rules.specs.OpenTrees.{valued_root}
 use Rattle.certificate.specs.declared.limits.TheConstants.{MAX_NODES}
@@ -11,10 +11,11 @@ use Rattle.search_tree.specs.declared.places.OpenPlace.{OpenPlace}
 use Rattle.search_tree.specs.declared.search.Search.{Search}
 use Rattle.search_tree.specs.Grown.{IsGrownAt}
 use Rattle.search_tree.specs.Places.{valued}
-use Rattle.search_tree.specs.Search.{IsSearch, made_in, opens_in}
+use Rattle.search_tree.specs.Search.{IsSearch, made_in, opens_in, slots_in}
 use Rattle.search_steps.specs.declared.plain.Plain.{Plain}
+use Rattle.search_steps.specs.declared.stepping.Stepped.{Stepped}
 use Rattle.search_steps.specs.Passed.{PassesLabels, PassesNodes}
-use Rattle.search_steps.specs.Steps.{IsPlain}
+use Rattle.search_steps.specs.Steps.{IsPlain, IsStep}
 use Rattle.solve_run.specs.declared.outcome.Limits.{Limits}
 use Rattle.solve_run.specs.declared.rounds.Next.{Next}
 use Rattle.solve_run.specs.declared.rounds.Next.TheVariants.{Ends, Goes}
@@ -37,6 +38,22 @@ IsRound m limits s (Ends outcome) = IsEnding m limits outcome
 -- an item is open at a place of the slots
 abbrev pub HasOpenAt : List (Slot OpenPlace MadeNode) → ℕ → Type 0
 HasOpenAt slots at = (place : OpenPlace) × IsOpenAt slots at place
+
+-- so many nodes may be made yet, and at least one
+abbrev pub IsRoom : Limits → Search → ℕ → Type 0
+IsRoom limits s budget = (1 ≤ budget) × (made_in s + budget ≡ limits.nodes)
+
+-- a search with the same slots, and no more left to do
+pub record IsKept (m : ModelParts) (limits : Limits) (old new : Search) : Type 0 where
+  pub within : IsWithin m limits new
+  pub slots : new.slots ≡ old.slots
+  pub most : work_left m limits.nodes new ≤ work_left m limits.nodes old
+
+-- it is the step at the place that is open there
+pub record IsStepAt (m : ModelParts) (s : Search) (at labels budget : ℕ) (step : Stepped) : Type 0 where
+  pub place : OpenPlace
+  pub is_open : IsOpenAt (slots_in s) at place
+  pub comes : IsStep m place s.z labels budget step
 
 -- as many nodes as may be are made, and tested, and some place is open
 pub record IsFull (m : ModelParts) (limits : Limits) (s : Search) : Type 0 where

@@ -1,21 +1,23 @@
-ghost use Rattle.std.specs.Prelude.{◌≡◌, ◌≢◌, ◌+◌, ◌<◌, ◌≤◌, ◌≤ℤ◌, true, false, [], IfOk, Some};
+ghost use Rattle.std.specs.Prelude.{◌≡◌, ◌≤ℤ◌, false, IfOk};
 ghost use Rattle.route_model.specs.Costs.{cost_above_all};
 ghost use Rattle.made_nodes.specs.Better.{IsBetter};
-ghost use Rattle.open_tree.specs.Slots.{IsOpenAt};
-ghost use Rattle.search_tree.specs.Search.{IsSearch, made_in, opens_in, slots_in};
+ghost use Rattle.search_tree.specs.Search.{IsSearch, slots_in};
+ghost use Rattle.column_rounds.specs.Columns.{AreColumnsOf};
 ghost use Rattle.solve_run.specs.Limits.{LimitsFit};
 ghost use Rattle.solve_run.specs.Rounds.{HasOpenAt, IsFull, IsPlainAtRoot, IsRound, IsWholeAtRoot, IsWithin, Passes};
 ghost use Rattle.solve_run.specs.Told.{EndsAs};
 
+use crate::choosing::{least_open, place_at};
 use crate::finish::{certified, finished};
+use crate::growing::grow_round;
 use crate::outcome::{Limits, Outcome};
-use crate::told::{label_limit, node_limit};
-use made_nodes::MadeNode;
-use open_tree::{Slot, first_open, made_count};
+use crate::told::node_limit;
+use column_rounds::Columns;
+use open_tree::{first_open, made_count};
 use path_graph::NoMemory;
 use route_model::{Model, Plan};
-use search_steps::{Plain, Stepped, grow_at, plain_tree};
-use search_tree::{Grown, OpenPlace, Search, begin, give_way, retest, with_best};
+use search_steps::{Plain, plain_tree};
+use search_tree::{Grown, Search, begin, retest, with_best};
 use std::alloc::Global;
 
 /// What a round of a search comes to.
@@ -23,42 +25,6 @@ use std::alloc::Global;
 pub(crate) enum Next {
     Goes(Search),
     Ends(Outcome),
-}
-
-/// The place that is open there.
-fn place_at(slots: &[Slot<OpenPlace, MadeNode>], at: usize) -> &OpenPlace
-    requires { HasOpenAt slots.now at }
-    ensures { IsOpenAt slots.now at result.now }
-{
-    match &slots[at] {
-        Slot::Open(place) => place,
-        Slot::Made(_) => unreachable!(),
-    }
-}
-
-/// A tree is grown at an open place.
-fn grow_round(
-    alloc: Global,
-    model: &Model,
-    limits: &Limits,
-    search: Search,
-    at: usize,
-    budget: usize,
-) -> Result<Next, NoMemory>
-    requires limits { LimitsFit limits.now }
-    requires search { IsWithin model.now limits.now search }
-    requires place { HasOpenAt (slots_in search) at }
-    requires some { 1 ≤ budget }
-    requires budget { made_in search + budget ≡ limits.now.nodes }
-    ensures { IfOk result (IsRound model.now limits.now search) }
-{
-    let _sets = model.sets;
-    let place = place_at(search.slots.as_slice(), at);
-    match grow_at(alloc, model, place, search.z, limits.labels, budget) {
-        Stepped::Grown(grown) => Ok(Next::Goes(give_way(alloc, search, at, grown)?)),
-        Stepped::Wall(wall) => Ok(Next::Ends(label_limit(model, search, wall))),
-        Stepped::Memory => Err(NoMemory),
-    }
 }
 
 /// All nodes are tested against the cost to beat.
@@ -151,16 +117,19 @@ fn open_round(
     limits: &Limits,
     search: Search,
     at: usize,
+    columns: &mut Columns,
 ) -> Result<Next, NoMemory>
     requires limits { LimitsFit limits.now }
     requires search { IsWithin model.now limits.now search }
     requires place { HasOpenAt (slots_in search) at }
-    ensures { IfOk result (IsRound model.now limits.now search) }
+    requires columns { AreColumnsOf model.now columns.old }
+    ensures round { IfOk result (IsRound model.now limits.now search) }
+    ensures columns { AreColumnsOf model.now columns.new }
 {
     let made = made_count(search.slots.as_slice());
     let most = limits.nodes as usize;
     if made < most {
-        return grow_round(alloc, model, limits, search, at, most - made);
+        return grow_round(alloc, model, limits, search, at, most - made, columns);
     }
     if !search.is_tested {
         return test_round(alloc, model, limits, search);
@@ -168,20 +137,23 @@ fn open_round(
     plain_round(alloc, model, limits, search)
 }
 
-/// A round of a search: where no place is open it is finished; or else a tree is grown at the first open place, while fewer
-/// nodes than may be are made; or the nodes are tested, or the plain tree is tried.
+/// A round of a search: where no place is open it is finished; or else a tree is grown at the open place of the least value,
+/// while fewer nodes than may be are made; or the nodes are tested, or the plain tree is tried.
 pub(crate) fn round(
     alloc: Global,
     model: &Model,
     limits: &Limits,
     search: Search,
+    columns: &mut Columns,
 ) -> Result<Next, NoMemory>
     requires limits { LimitsFit limits.now }
     requires search { IsWithin model.now limits.now search }
-    ensures { IfOk result (IsRound model.now limits.now search) }
+    requires columns { AreColumnsOf model.now columns.old }
+    ensures round { IfOk result (IsRound model.now limits.now search) }
+    ensures columns { AreColumnsOf model.now columns.new }
 {
-    match first_open(search.slots.as_slice()) {
+    match least_open(search.slots.as_slice()) {
         None => Ok(Next::Ends(finished(alloc, model, search)?)),
-        Some(at) => open_round(alloc, model, limits, search, at),
+        Some(at) => open_round(alloc, model, limits, search, at, columns),
     }
 }

@@ -5,6 +5,7 @@ ghost use Rattle.solve_run.specs.Told.{IsEnding};
 
 use crate::outcome::{Limits, Outcome};
 use crate::rounds::{Next, round};
+use column_rounds::begin_columns;
 use path_graph::NoMemory;
 use route_model::Model;
 use search_tree::begin;
@@ -18,8 +19,9 @@ fn search_on(alloc: Global, model: &Model, limits: &Limits) -> Result<Outcome, N
     ensures { IfOk result (IsEnding model.now limits.now) }
 {
     let mut search = begin(alloc, model)?;
+    let mut columns = begin_columns(alloc, model)?;
     'rounds: loop {
-        match round(alloc, model, limits, search)? {
+        match round(alloc, model, limits, search, &mut columns)? {
             Next::Goes(next) => search = next,
             Next::Ends(outcome) => return Ok(outcome),
         }
