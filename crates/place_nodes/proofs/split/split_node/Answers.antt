@@ -25,3 +25,14 @@ returns-in-Ok-clause-priced c =
     let open_b : IsOpenBound t k b = subst (IsOpenBound t k) (sym (to_z-of_z w128 c.args.bound c.ranges.bound)) c.requires.bound in
     let is : v ≡ raised t.value (Some b) = to_z-of_z w64 c.raised.result (search rules) ∙ (c.raised.ensures ∙ ap (λ (x : ℤ). raised x (Some b)) (to_z-of_z w64 t.value (search rules))) in
     split_node t c.args.split c.requires.task c.requires.split k b c.requires.known open_b v c.in-Ok.opened.items is c.in-Ok.ensures
+
+pub returns-in-Ok-clause-cut_off : goal.returns-in-Ok-clause-cut_off
+returns-in-Ok-clause-cut_off c cut_off =
+    let t = c.args.task.now in
+    let k = c.args.known in
+    let b : ℤ = to_z w128 (of_z w128 c.args.bound) in
+    let v : ℤ = to_z w64 (of_z w64 c.raised.result) in
+    let open_b : IsOpenBound t k b = subst (IsOpenBound t k) (sym (to_z-of_z w128 c.args.bound c.ranges.bound)) c.requires.bound in
+    let is : v ≡ raised t.value (Some b) = to_z-of_z w64 c.raised.result (search rules) ∙ (c.raised.ensures ∙ ap (λ (x : ℤ). raised x (Some b)) (to_z-of_z w64 t.value (search rules))) in
+    split_cut_off t c.args.split c.requires.task c.requires.split k b c.requires.known open_b c.in-Ok.opened.items
+    (split_node t c.args.split c.requires.task c.requires.split k b c.requires.known open_b v c.in-Ok.opened.items is c.in-Ok.ensures) cut_off

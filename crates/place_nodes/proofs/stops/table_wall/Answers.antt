@@ -3,4 +3,4 @@ use Rattle.place_nodes.proofs.stops.table_wall.Goals as goal
 
 pub returns-in-Ok : goal.returns-in-Ok
 returns-in-Ok c =
-    table_stops c.args.task.now c.args.basis c.args.graph c.args.is_backward c.args.table c.in-Ok.spot c.new-in-Ok.result c.requires.task c.requires.basis c.requires.wall c.in-Ok.ensures
+    table_stops c.args.task.now c.args.basis c.args.graph c.args.is_backward c.args.table c.in-Ok.spot c.new.result c.requires.task c.requires.basis c.requires.wall c.in-Ok.ensures
