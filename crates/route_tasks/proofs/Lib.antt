@@ -1,1 +1,3 @@
 pub mod DistanceLemmas
+pub mod RangeLemmas
+pub mod GraphLemmas

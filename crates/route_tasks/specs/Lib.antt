@@ -1,2 +1,5 @@
 pub mod Distance
 pub mod Fit
+pub mod Places
+pub mod ModelOf
+pub mod Shape

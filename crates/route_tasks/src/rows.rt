@@ -1,0 +1,96 @@
+ghost use Rattle.std.specs.Prelude.{◌≡◌, ◌≢◌, ℕ, ◌+◌, ◌<◌, ◌≤◌, ◌-◌, ◌++◌, ◌∷◌, [], map, IfOk, OnOk, pos};
+ghost use Rattle.std.specs.List.{range_with_len};
+ghost use Rattle.route_tasks.specs.Fit.{TaskFits};
+ghost use Rattle.route_tasks.specs.Places.{customers, others, over_pairs, variable, distance_at};
+ghost use Rattle.route_tasks.specs.ModelOf.{term_of, row_of, rows_of, var_of, vars_of};
+
+use crate::distances::distance;
+use crate::places::{customer_count, place, variable_at};
+use crate::task::RouteTask;
+use path_graph::{List, NoMemory};
+use route_model::{Row, RowTerm, Var};
+use std::alloc::Global;
+
+/// The variable of a pair.
+fn var(task: &RouteTask, low: u32, high: u32) -> Var
+    requires { TaskFits task.now }
+    ensures { result ≡ var_of task.now low high }
+{
+    Var {
+        low: 0,
+        high: if low == 0 { 2 } else { 1 },
+        cost: distance(task, &place(task, low), &place(task, high)),
+    }
+}
+
+/// Appends the variables of the pairs with this lower place.
+fn push_vars(
+    alloc: Global,
+    vars: &mut List<Var>,
+    task: &RouteTask,
+    low: u32,
+) -> Result<(), NoMemory>
+    requires fits { TaskFits task.now }
+    requires place { low < customers task.now }
+    ensures { OnOk result (vars.new ≡ vars.old ++ map (var_of task.now low) (range_with_len (low + 1) (customers task.now - low))) }
+{
+    for high in low + 1..customer_count(task) + 1 {
+        vars.push(var(task, low, high))?;
+    }
+    Ok(())
+}
+
+/// The variables, by lower, then by higher place.
+pub(crate) fn vars(alloc: Global, task: &RouteTask) -> Result<List<Var>, NoMemory>
+    requires { TaskFits task.now }
+    ensures { IfOk result (λ vars. vars ≡ vars_of task.now) }
+{
+    let mut vars = List::new(alloc);
+    for low in 0..customer_count(task) {
+        push_vars(alloc, &mut vars, task, low)?;
+    }
+    Ok(vars)
+}
+
+/// The variables of the pairs with a customer, each once.
+fn terms(alloc: Global, n: u32, i: u32) -> Result<List<RowTerm>, NoMemory>
+    requires few { n ≤ 244 }
+    requires place { i ≤ n }
+    ensures { IfOk result (λ terms. terms ≡ map (term_of n i) (others n i)) }
+{
+    let mut terms = List::new(alloc);
+    for j in 0..n + 1 {
+        if j != i {
+            terms.push(RowTerm {
+                var: variable_at(n, i, j),
+                coef: 1,
+            })?;
+        }
+    }
+    Ok(terms)
+}
+
+/// The row of a customer: the pairs with it are used twice.
+fn row(alloc: Global, n: u32, i: u32) -> Result<Row, NoMemory>
+    requires few { n ≤ 244 }
+    requires place { i ≤ n }
+    ensures { IfOk result (λ row. row ≡ row_of n i) }
+{
+    Ok(Row {
+        low: Some(2),
+        high: Some(2),
+        terms: terms(alloc, n, i)?,
+    })
+}
+
+/// The rows of the customers.
+pub(crate) fn rows(alloc: Global, n: u32) -> Result<List<Row>, NoMemory>
+    requires { n ≤ 244 }
+    ensures { IfOk result (λ rows. rows ≡ rows_of n) }
+{
+    let mut rows = List::new(alloc);
+    for i in 1..n + 1 {
+        rows.push(row(alloc, n, i)?)?;
+    }
+    Ok(rows)
+}
