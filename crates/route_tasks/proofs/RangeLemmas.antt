@@ -101,6 +101,7 @@ twice_before n (suc k) l =
   where
     next : (j : ℕ) → j + 1 ≡ suc j
     next j = omega arith
+
     sums : (b c m j : ℕ) → 2 * b + j * j ≡ j * (2 * m + 1) → c ≡ b + (m - j) → j ≤ m → 2 * c + (j + 1) * (j + 1) ≡ (j + 1) * (2 * m + 1)
     sums b c m j before after few = grind arith
 

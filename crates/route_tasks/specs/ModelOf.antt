@@ -15,7 +15,7 @@ use Rattle.route_tasks.specs.declared.task.Stop.{Stop}
 use Rattle.route_tasks.specs.declared.task.Style.{Style}
 use Rattle.route_tasks.specs.declared.task.Style.TheVariants.{Euclid, Tenths}
 use Rattle.route_tasks.specs.declared.task.RouteTask.{RouteTask}
-use Rattle.route_tasks.specs.Places.{customers, place_at, distance_at, over_pairs, variable, or_depot, others}
+use Rattle.route_tasks.specs.Places.{customers, place_at, distance_at, over_pairs, variable, or_depot, other}
 
 -- time is kept, and every customer has a demand, so that load is main
 abbrev pub is_timed : Style → Bool
@@ -116,8 +116,11 @@ vars_of task = over_pairs (customers task) (var_of task)
 abbrev pub term_of : ℕ → ℕ → ℕ → RowTerm
 term_of n i j = record { var = variable n i j; coef = pos 1 }
 
+abbrev pub terms_of : ℕ → ℕ → List RowTerm
+terms_of n i = map (λ k. term_of n i (other i k)) (range_with_len 0 n)
+
 abbrev pub row_of : ℕ → ℕ → Row
-row_of n i = record { low = Some (pos 2); high = Some (pos 2); terms = map (term_of n i) (others n i) }
+row_of n i = record { low = Some (pos 2); high = Some (pos 2); terms = terms_of n i }
 
 abbrev pub rows_of : ℕ → List Row
 rows_of n = map (row_of n) (range_with_len 1 n)

@@ -36,6 +36,6 @@ variable n u v = if nat_lt u v then pair_number n u v else pair_number n v u
 abbrev pub or_depot : ℕ → ℕ → ℕ
 or_depot n v = if nat_lt n v then 0 else v
 
--- the places other than one
-abbrev pub others : ℕ → ℕ → List ℕ
-others n i = filter (λ j. not (j == i)) (range_with_len 0 (n + 1))
+-- the k-th place other than one, from 0 on
+abbrev pub other : ℕ → ℕ → ℕ
+other i k = if nat_lt k i then k else k + 1

@@ -1,8 +1,8 @@
 ghost use Rattle.std.specs.Prelude.{◌≡◌, ◌≢◌, ℕ, ◌+◌, ◌<◌, ◌≤◌, ◌-◌, ◌++◌, ◌∷◌, [], map, IfOk, OnOk, pos};
 ghost use Rattle.std.specs.List.{range_with_len};
 ghost use Rattle.route_tasks.specs.Fit.{TaskFits};
-ghost use Rattle.route_tasks.specs.Places.{customers, others, over_pairs, variable, distance_at};
-ghost use Rattle.route_tasks.specs.ModelOf.{term_of, row_of, rows_of, var_of, vars_of};
+ghost use Rattle.route_tasks.specs.Places.{customers, other, over_pairs, variable, distance_at};
+ghost use Rattle.route_tasks.specs.ModelOf.{term_of, terms_of, row_of, rows_of, var_of, vars_of};
 
 use crate::distances::distance;
 use crate::places::{customer_count, place, variable_at};
@@ -52,20 +52,29 @@ pub(crate) fn vars(alloc: Global, task: &RouteTask) -> Result<List<Var>, NoMemor
     Ok(vars)
 }
 
+/// The term of the pair of a customer with the `k`-th other place.
+fn term(n: u32, i: u32, k: u32) -> RowTerm
+    requires few { n ≤ 244 }
+    requires customer { i ≤ n }
+    requires place { k < n }
+    ensures { result ≡ term_of n i (other i k) }
+{
+    let other = if k < i { k } else { k + 1 };
+    RowTerm {
+        var: variable_at(n, i, other),
+        coef: 1,
+    }
+}
+
 /// The variables of the pairs with a customer, each once.
 fn terms(alloc: Global, n: u32, i: u32) -> Result<List<RowTerm>, NoMemory>
     requires few { n ≤ 244 }
     requires place { i ≤ n }
-    ensures { IfOk result (λ terms. terms ≡ map (term_of n i) (others n i)) }
+    ensures { IfOk result (λ terms. terms ≡ terms_of n i) }
 {
     let mut terms = List::new(alloc);
-    for j in 0..n + 1 {
-        if j != i {
-            terms.push(RowTerm {
-                var: variable_at(n, i, j),
-                coef: 1,
-            })?;
-        }
+    for k in 0..n {
+        terms.push(term(n, i, k))?;
     }
     Ok(terms)
 }

@@ -14,7 +14,7 @@ returns c =
     let second : to_z w64 (of_z w64 c.distance.result) ≡ c.distance.result = search rules in
     let third : to_z w32 (of_z w32 service) ≡ service = search rules in
     let served : c.tenfold.result ≡ TENTHS *ℤ (place_at task c.args.tail).service =
-        c.tenfold.ensures.value ∙ (ap (λ (z : ℤ). TENTHS *ℤ z) third ∙ ap (λ (s : Stop). TENTHS *ℤ s.service) c.place-from.ensures.place) in
+    c.tenfold.ensures.value ∙ (ap (λ (z : ℤ). TENTHS *ℤ z) third ∙ ap (λ (s : Stop). TENTHS *ℤ s.service) c.place-from.ensures.place) in
     let far : c.distance.result ≡ pos (distance_of task.style (place_at task c.args.tail) (place_at task c.args.head)) =
-        c.distance.ensures.value ∙ (λ i. pos (distance_of task.style (c.place-from.ensures.place i) (c.place-to.ensures.place i))) in
+    c.distance.ensures.value ∙ (λ i. pos (distance_of task.style (c.place-from.ensures.place i) (c.place-to.ensures.place i))) in
     back ∙ (c.sum.ensures ∙ (λ i. ((first ∙ served) i) +ℤ ((second ∙ far) i)))
