@@ -31,6 +31,9 @@ le_passes a b l = grind (arith, nat_tests)
 passes_le : (a b : ℕ) → nat_le a b ≡ true → a ≤ b
 passes_le a b t = grind (arith, nat_tests)
 
+pub square_rises : (a b : ℕ) → a ≤ b → a * a ≤ b * b
+square_rises a b l = mul-le-mul l l
+
 -- no number above the squared distance passes
 nearest_small : (square d : ℕ) → AtMostNearest square d → 1 ≤ square → d ≤ square
 nearest_small square d h some = elim (cases_lt square d) [
@@ -61,3 +64,33 @@ root_is Tenths square d rule =
     found (100 * square) (λ e. nat_le (e * e) (100 * square)) d (tenths_small square d rule.holds)
     (λ some. le_passes (d * d) (100 * square) rule.holds)
     (λ e t. rule.most e (passes_le (e * e) (100 * square) t))
+
+-- what is found passes, or is 0
+found_passes : (n : ℕ) (test : ℕ → Bool) → 1 ≤ greatest_up_to n test → test (greatest_up_to n test) ≡ true
+unfolding greatest_up_to
+found_passes zero test some = absurd (omega (arith, some))
+found_passes (suc n) test some = by_test (test (suc n)) refl (found_passes n test) some
+  where
+    by_test : (b : Bool) → test (suc n) ≡ b → (1 ≤ greatest_up_to n test → test (greatest_up_to n test) ≡ true) → 1 ≤ (if b then suc n else greatest_up_to n test) → test (if b then suc n else greatest_up_to n test) ≡ true
+    by_test true e less h = e
+    by_test false e less h = less h
+
+-- no distance is above 2,828,427
+pub root_small : (style : Style) (square : ℕ) → square ≤ 80000000000 → root_of style square ≤ 2828427
+unfolding root_of
+root_small Euclid square few = elim (cases_lt 2828427 (root_of Euclid square)) [
+  | inl long ↦
+      let d : ℕ = greatest_up_to square (λ e. nat_le ((2 * e - 1) * (2 * e - 1)) (4 * square)) in
+      let passes = passes_le ((2 * d - 1) * (2 * d - 1)) (4 * square) (found_passes square (λ e. nat_le ((2 * e - 1) * (2 * e - 1)) (4 * square)) (omega (arith, long))) in
+      let wide : 2828427 * 2828427 ≤ (2 * d - 1) * (2 * d - 1) = square_rises 2828427 (2 * d - 1) (omega (arith, long)) in
+      absurd (omega (arith, wide, passes, few))
+  | inr short ↦ short
+]
+root_small Tenths square few = elim (cases_lt 2828427 (root_of Tenths square)) [
+  | inl long ↦
+      let d : ℕ = greatest_up_to (100 * square) (λ e. nat_le (e * e) (100 * square)) in
+      let passes = passes_le (d * d) (100 * square) (found_passes (100 * square) (λ e. nat_le (e * e) (100 * square)) (omega (arith, long))) in
+      let wide : 2828428 * 2828428 ≤ d * d = square_rises 2828428 d (omega (arith, long)) in
+      absurd (omega (arith, wide, passes, few))
+  | inr short ↦ short
+]

@@ -1,3 +1,7 @@
 pub mod DistanceLemmas
 pub mod RangeLemmas
 pub mod GraphLemmas
+pub mod ListLemmas
+pub mod PairLemmas
+pub mod ArcLemmas
+pub mod FitLemmas

@@ -92,7 +92,7 @@ before_more n k =
     ap (sum_by (λ j. n - j)) (range_push 0 k k (omega arith))
     ∙ (sum_by-append (λ j. n - j) (range_with_len 0 k) (k ∷ []) ∙ ap (λ m. pairs_before n k + m) (sum_by-cons (λ j. n - j) k [] ∙ omega arith))
 
-twice_before : (n k : ℕ) → k ≤ n + 1 → 2 * pairs_before n k + k * k ≡ k * (2 * n + 1)
+pub twice_before : (n k : ℕ) → k ≤ n + 1 → 2 * pairs_before n k + k * k ≡ k * (2 * n + 1)
 twice_before n zero l = omega arith
 twice_before n (suc k) l =
     let less = twice_before n k (omega (arith, l)) in
