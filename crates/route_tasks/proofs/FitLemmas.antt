@@ -1,11 +1,12 @@
 -- The parts of the model of a task fit.
 use Rattle.std.proofs.Common.{◌≡◌, ◌≢◌, ℕ, zero, suc, ◌+◌, ◌-◌, ◌*◌, ◌<◌, ◌≤◌, min, ℤ, pos, ◌+ℤ◌, ◌-ℤ◌, ◌*ℤ◌, ◌≤ℤ◌, neg_ℤ, unsigned_abs, List, [], ◌∷◌, length, map, get_or, Bool, true, false, not, ◌&&◌, All, refl, sym, ◌∙◌, ap, subst, arith, inl, inr, nat_lt, sum_by, mul-le-mul, Some, None, IfSome}
-use Rattle.std.specs.Prelude.{if◌then◌else◌, int_lt, slice_index_or}
+use Rattle.std.specs.Prelude.{if◌then◌else◌, int_lt, slice_index_or, ◌⊎◌}
 use Rattle.std.specs.List.{range_with_len, flat_map, AllPass}
 use Rattle.std.specs.Ordering.{int_eq}
 use Rattle.std.proofs.lemmas.Int.{ints}
 use Rattle.std.proofs.lemmas.Bool.{cases_eq, cases_lt}
-use Rattle.std.proofs.lemmas.Bool.Decides.{nat_tests}
+use Rattle.std.proofs.lemmas.Bool.Decides.{nat_tests, Decides-int_eq}
+use Rattle.std.specs.Bool.{Decides}
 use Rattle.std.proofs.lemmas.List.{get_or_past, length-map}
 use Rattle.std.proofs.lemmas.List.Elements.{All-map, All-cons}
 use Rattle.std.proofs.lemmas.List.Sums.{AllPass-from_list_all, sum_by-cons}
@@ -190,3 +191,107 @@ arc_fits task arc fits is = record {
           no_main = refl;
           no_second = refl;
         }
+
+-- the ends fit, and the parts of the graph
+ends_fit : (task : RouteTask) → TaskFits task → EndsFit (ends_of task) (customers task + 2)
+ends_fit task fits = record {
+  source = omega arith;
+  sink = omega arith;
+  different = λ e. omega (arith, e);
+  paths = omega arith;
+  most_paths = omega (arith, fits.few_customers);
+  some_main = (two_or_one (is_timed task.style)).0;
+  mains = (two_or_one (is_timed task.style)).1;
+  seconds = none_or_one (is_load_main task);
+}
+  where
+    two_or_one : (b : Bool) → (1 ≤ (if b then 2 else 1)) × ((if b then 2 else 1) ≤ 2)
+    two_or_one true = (omega arith, omega arith)
+    two_or_one false = (omega arith, omega arith)
+    none_or_one : (b : Bool) → (if b then 0 else 1) ≤ 4
+    none_or_one true = omega arith
+    none_or_one false = omega arith
+
+pub vertices_size : (task : RouteTask) → length (vertices_of task) ≡ customers task + 2
+vertices_size task = length-map-range_with_len (vertex_of task) 0 (customers task + 2)
+
+pub vertex_is : (task : RouteTask) (v : ℕ) → v < customers task + 2 → vertex_at (vertices_of task) v ≡ vertex_of task v
+vertex_is task v l = get_or-map-range_with_len (vertex_of task) 0 (customers task + 2) v v _ l (omega arith)
+
+no_set : (n v : ℕ) → v ≡ 0 ⊎ n < v → set_of n v ≡ None
+no_set n v (inl least) = let e : (nat_lt 0 v && not (nat_lt n v)) ≡ false = grind (arith, nat_tests) in ap (λ b. if b then Some (v - 1) else None) e
+no_set n v (inr past) = let e : (nat_lt 0 v && not (nat_lt n v)) ≡ false = grind (arith, nat_tests) in ap (λ b. if b then Some (v - 1) else None) e
+
+pub widest : (n : ℕ) → n ≤ 244 → (n + 1) * n ≤ 245 * 244
+widest n few = let more : n + 1 ≤ 245 = omega (arith, few) in mul-le-mul more few
+
+pub parts_fit : (task : RouteTask) → TaskFits task → PartsFit (ends_of task) (vertices_of task) (arcs_of task)
+parts_fit task fits = record {
+  some_vertices = omega (arith, vertices_size task);
+  few_vertices = omega (arith, vertices_size task, fits.few_customers);
+  few_arcs =
+      let few = few_arcs task fits.some_customers in
+      let most : (customers task + 1) * customers task ≤ 245 * 244 = widest (customers task) fits.few_customers in
+      omega (arith, few, most);
+  ends_fit = subst (EndsFit (ends_of task)) (sym (vertices_size task)) (ends_fit task fits);
+  source_free = ap (λ (v : Vertex). v.set) (vertex_is task 0 (omega arith)) ∙ no_set (customers task) 0 (inl refl);
+  sink_free = ap (λ (v : Vertex). v.set) (vertex_is task (customers task + 1) (omega arith)) ∙ no_set (customers task) (customers task + 1) (inr (omega arith));
+  each_vertex = All-map (VertexFits (ends_of task)) (vertex_of task) (range_with_len 0 (customers task + 2))
+      (all_range (λ v. VertexFits (ends_of task) (vertex_of task v)) 0 (customers task + 2) (λ v low high. vertex_fits task v fits));
+  each_arc = λ a d l. subst (λ (count : ℕ). ArcFits (ends_of task) count (get_or (arcs_of task) a d)) (sym (vertices_size task))
+      (arc_fits task (get_or (arcs_of task) a d) fits (each_arc task a d l));
+}
+
+-- only arcs into the sink are without main consumption
+no_truth : false ≡ true → ⊥
+no_truth h = cc
+
+both_zero : (x y : ℤ) → (int_eq x (pos 0) && int_eq y (pos 0)) ≡ true → (x ≡ pos 0) × (y ≡ pos 0)
+both_zero x y e = zeros (int_eq x (pos 0)) (int_eq y (pos 0)) (Decides-int_eq x (pos 0)) (Decides-int_eq y (pos 0)) e
+  where
+    zeros : (a b : Bool) → Decides a (x ≡ pos 0) → Decides b (y ≡ pos 0) → (a && b) ≡ true → (x ≡ pos 0) × (y ≡ pos 0)
+    zeros true true p q h = (p.0 refl, q.0 refl)
+    zeros true false p q h = absurd (no_truth h)
+    zeros false b p q h = absurd (no_truth h)
+
+free_main : (t l : Bool) (time stops load : ℤ) → (int_eq (int_at (laid t l time stops load (pos 0)) 0) (pos 0) && int_eq (int_at (laid t l time stops load (pos 0)) 1) (pos 0)) ≡ true → (if l then load else stops) ≡ pos 0
+free_main true true time stops load e = (both_zero time load e).1
+free_main true false time stops load e = (both_zero time stops e).1
+free_main false true time stops load e = (both_zero load (pos 0) e).0
+free_main false false time stops load e = (both_zero stops (pos 0) e).0
+
+-- with a demand of at least 1 at each customer, load rises; else each stop counts
+demanded : (task : RouteTask) (v : ℕ) → is_load_main task ≡ true → 1 ≤ v → v ≤ customers task → (place_at task v).demand ≢ pos 0
+demanded task zero main low high = absurd (omega (arith, low))
+demanded task (suc k) main low high =
+    let each = AllPass-from_list_all (λ s. int_lt (pos 0) s.demand) task.stops main in
+    let here : int_lt (pos 0) (place_at task (suc k)).demand ≡ true = each k task.depot (omega (arith, high)) in
+    positive (place_at task (suc k)).demand here
+  where
+    positive : (z : ℤ) → int_lt (pos 0) z ≡ true → z ≢ pos 0
+    positive z e none = no_truth (subst (λ (x : ℤ). int_lt (pos 0) x ≡ true) none e)
+
+free_head : (task : RouteTask) (arc : GraphArc) → IsArc task arc → is_free arc ≡ true → customers task < arc.head
+free_head task arc is free = elim (cases_lt (customers task) arc.head) [
+  | inl past ↦ past
+  | inr within ↦ absurd (by_main (is_load_main task) refl (free_main (is_timed task.style) (is_load_main task) (time_need task arc.tail arc.head) (stop_need (customers task) arc.head) (place_at task arc.head).demand
+      (subst (λ (qs : List ℤ). (int_eq (int_at qs 0) (pos 0) && int_eq (int_at qs 1) (pos 0)) ≡ true) is.needs free)) within)
+]
+  where
+    by_main : (b : Bool) → is_load_main task ≡ b → (if b then (place_at task arc.head).demand else stop_need (customers task) arc.head) ≡ pos 0 → arc.head ≤ customers task → ⊥
+    by_main true e none within = demanded task arc.head e is.some within none
+    by_main false e none within =
+        let here : nat_lt (customers task) arc.head ≡ false = grind (arith, nat_tests) in
+        let one : pos 1 ≡ pos 0 = sym (ap (λ (b : Bool). if b then pos 0 else pos 1) here) ∙ none in
+        cc
+
+pub no_free_cycle : (task : RouteTask) → HasNoFreeCycle (arcs_of task)
+no_free_cycle task cycle is = by_cycle cycle is.vertex is.some is.leads
+  where
+    by_cycle : (arcs : List ℕ) (v : ℕ) → 1 ≤ length arcs → IsFreePath (arcs_of task) v arcs v → ⊥
+    by_cycle [] v some leads = omega (arith, some)
+    by_cycle (a ∷ []) v some leads = (arc_is task a leads.0).differ (leads.3 ∙ sym leads.2)
+    by_cycle (a ∷ b ∷ rest) v some leads =
+        let first = free_head task (arc_at (arcs_of task) a) (arc_is task a leads.0) leads.1 in
+        let next = (arc_is task b leads.3.0).from in
+        omega (arith, first, next, leads.3.2)
