@@ -110,7 +110,7 @@ window_fits : (low high : ℤ) → pos 0 ≤ℤ low → low ≤ℤ high → high
 window_fits low high p q r = (omega (arith, ints), q, r)
 
 -- the set of a customer
-set_is : (n v : ℕ) (P : ℕ → Type 0) → (1 ≤ v → v ≤ n → P (v - 1)) → IfSome (set_of n v) P
+pub set_is : (n v : ℕ) (P : ℕ → Type 0) → (1 ≤ v → v ≤ n → P (v - 1)) → IfSome (set_of n v) P
 set_is n v P h = by_test (nat_lt 0 v && not (nat_lt n v)) refl
   where
     low : (nat_lt 0 v && not (nat_lt n v)) ≡ true → 1 ≤ v

@@ -5,3 +5,4 @@ pub mod ListLemmas
 pub mod PairLemmas
 pub mod ArcLemmas
 pub mod FitLemmas
+pub mod ModelLemmas
