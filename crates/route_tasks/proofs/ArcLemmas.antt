@@ -46,7 +46,7 @@ each_arc task =
       differ = head_differs (customers task) tail head passes;
       not_both = λ zero_tail. let other = head_not_both (customers task) tail head passes zero_tail in omega (arith, other, to);
       needs = refl;
-      })))))
+    })))))
 
 pub arc_is : (task : RouteTask) (a : ℕ) → a < length (arcs_of task) → IsArc task (arc_at (arcs_of task) a)
 arc_is task a l = each_arc task a _ l
@@ -75,9 +75,9 @@ pub few_arcs : (task : RouteTask) → 1 ≤ customers task → length (arcs_of t
 few_arcs task some =
     let size = length-flat_map (arcs_at task) (range_with_len 0 (customers task + 1)) in
     let most = sum_small (λ tail. length (arcs_at task tail)) (customers task) (range_with_len 0 (customers task + 1))
-        (all_range (λ tail. length (arcs_at task tail) ≤ customers task) 0 (customers task + 1) (λ tail low high.
-        let few = few_heads (customers task) tail some (omega (arith, high)) in
-        omega (arith, few, length-map (heads_of (customers task) tail) (arc_of task tail)))) in
+    (all_range (λ tail. length (arcs_at task tail) ≤ customers task) 0 (customers task + 1) (λ tail low high.
+    let few = few_heads (customers task) tail some (omega (arith, high)) in
+    omega (arith, few, length-map (heads_of (customers task) tail) (arc_of task tail)))) in
     let long = length-range_with_len 0 (customers task + 1) in
     let product = ap (λ (k : ℕ). k * customers task) long in
     omega (arith, size, most, product)

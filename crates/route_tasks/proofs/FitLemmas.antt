@@ -115,8 +115,10 @@ set_is n v P h = by_test (nat_lt 0 v && not (nat_lt n v)) refl
   where
     low : (nat_lt 0 v && not (nat_lt n v)) ≡ true → 1 ≤ v
     low e = grind (arith, nat_tests)
+
     high : (nat_lt 0 v && not (nat_lt n v)) ≡ true → v ≤ n
     high e = grind (arith, nat_tests)
+
     by_test : (b : Bool) → (nat_lt 0 v && not (nat_lt n v)) ≡ b → IfSome (if b then Some (v - 1) else None) P
     by_test true e = h (low e) (high e)
     by_test false e = tt
@@ -126,20 +128,28 @@ vertex_fits task v fits = record { set = in_range; places = laid_size t l time s
   where
     n : ℕ
     n = customers task
+
     t : Bool
     t = is_timed task.style
+
     l : Bool
     l = is_load_main task
+
     time : Window
     time = window (pos 10 *ℤ (place_at task v).ready) (pos 10 *ℤ (place_at task v).due)
+
     stops : Window
     stops = window (pos 0) (pos n)
+
     load : Window
     load = window (pos 0) task.capacity
+
     none : Window
     none = window (pos 0) (pos 0)
+
     in_range : IfSome (set_of n v) (λ s. s < 512)
     in_range = set_is n v (λ s. s < 512) (λ low high. omega (arith, low, high, fits.few_customers))
+
     parts : PartsAre (λ used main. WindowFits used) time stops load none
     parts =
         let fit = place_fits task v fits in
@@ -165,19 +175,26 @@ arc_fits task arc fits is = record {
   where
     n : ℕ
     n = customers task
+
     t : Bool
     t = is_timed task.style
+
     l : Bool
     l = is_load_main task
+
     time : ℤ
     time = time_need task arc.tail arc.head
+
     stops : ℤ
     stops = stop_need n arc.head
+
     load : ℤ
     load = (place_at task arc.head).demand
+
     one : (b : Bool) → (pos 0 ≤ℤ (if b then pos 0 else pos 1)) × ((if b then pos 0 else pos 1) ≤ℤ pos 100000000)
     one true = (omega (arith, ints), omega (arith, ints))
     one false = (omega (arith, ints), omega (arith, ints))
+
     parts : PartsAre (λ used main. NeedFits used main) time stops load (pos 0)
     parts =
         let from = place_fits task arc.tail fits in
@@ -208,6 +225,7 @@ ends_fit task fits = record {
     two_or_one : (b : Bool) → (1 ≤ (if b then 2 else 1)) × ((if b then 2 else 1) ≤ 2)
     two_or_one true = (omega arith, omega arith)
     two_or_one false = (omega arith, omega arith)
+
     none_or_one : (b : Bool) → (if b then 0 else 1) ≤ 4
     none_or_one true = omega arith
     none_or_one false = omega arith

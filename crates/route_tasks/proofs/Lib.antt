@@ -6,3 +6,4 @@ pub mod PairLemmas
 pub mod ArcLemmas
 pub mod FitLemmas
 pub mod ModelLemmas
+pub mod WalkLemmas

@@ -90,6 +90,7 @@ variable_rises n i k p l = elim (cases_lt (k + 1) i) [
         let e : other i j ≡ j = grind (arith, nat_tests) in
         let no_less : nat_lt i j ≡ false = grind (arith, nat_tests) in
         ap (variable n i) e ∙ ap (λ b. if b then pair_number n i j else pair_number n j i) no_less
+
     above : (j : ℕ) → i ≤ j → variable n i (other i j) ≡ pair_number n i (j + 1)
     above j more =
         let e : other i j ≡ j + 1 = grind (arith, nat_tests) in
@@ -120,8 +121,8 @@ row_fits n i count p size = record {
 one_each : (n i j : ℕ) → row_coef j (terms_of n i) ≤ n
 one_each n i j =
     let most = sum_small (λ (t : RowTerm). if t.var == j then unsigned_abs t.coef else 0) 1 (terms_of n i)
-        (All-map (λ (t : RowTerm). (if t.var == j then unsigned_abs t.coef else 0) ≤ 1) (term_at_other n i) (range_with_len 0 n)
-        (all_range (λ k. (if (term_at_other n i k).var == j then unsigned_abs (pos 1) else 0) ≤ 1) 0 n (λ k low high. one ((term_at_other n i k).var == j)))) in
+    (All-map (λ (t : RowTerm). (if t.var == j then unsigned_abs t.coef else 0) ≤ 1) (term_at_other n i) (range_with_len 0 n)
+    (all_range (λ k. (if (term_at_other n i k).var == j then unsigned_abs (pos 1) else 0) ≤ 1) 0 n (λ k low high. one ((term_at_other n i k).var == j)))) in
     omega (arith, most, terms_size n i)
   where
     one : (b : Bool) → (if b then 1 else 0) ≤ 1

@@ -65,11 +65,15 @@ pair_at {X = X} n low high f d l h =
   where
     part : ℕ → List X
     part k = map (f k) (range_with_len (k + 1) (n - k))
+
     first : take low (range_with_len 0 n) ≡ range_with_len 0 low
     first = ap (take low) (sym (map-id (range_with_len 0 n))) ∙ (take-map-range_with_len (λ k. k) 0 n low (omega (arith, l, h)) ∙ map-id (range_with_len 0 low))
+
     before : length (flat_map part (take low (range_with_len 0 n))) ≡ pairs_before n low
     before = ap (λ xs. length (flat_map part xs)) first ∙ (length-flat_map part (range_with_len 0 low) ∙ (λ i. sum_by (λ k. length-map-range_with_len (f k) (k + 1) (n - k) i) (range_with_len 0 low)))
+
     here : get_or (range_with_len 0 n) low 0 ≡ low
     here = get_or-range_with_len 0 n low 0 (omega (arith, l, h)) ∙ omega arith
+
     within : high - low - 1 < length (part (get_or (range_with_len 0 n) low 0))
     within = let size = ap (λ k. length (part k)) here ∙ length-map-range_with_len (f low) (low + 1) (n - low) in omega (arith, size, l, h)

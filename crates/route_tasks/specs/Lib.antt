@@ -3,3 +3,4 @@ pub mod Fit
 pub mod Places
 pub mod ModelOf
 pub mod Shape
+pub mod Routes

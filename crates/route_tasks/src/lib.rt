@@ -6,6 +6,7 @@ mod distances;
 mod graphs;
 mod limits;
 mod places;
+mod routing;
 mod rows;
 mod task;
 
@@ -15,4 +16,5 @@ pub use limits::{
     MAX_COORDINATE, MAX_CUSTOMERS, MAX_DISTANCE, MAX_LOAD, MAX_NUMBER, MAX_SERVICE, MAX_TIME,
     MAX_VEHICLES, TENTHS,
 };
+pub use routing::routes_of;
 pub use task::{RouteTask, Stop, Style};

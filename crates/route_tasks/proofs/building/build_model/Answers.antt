@@ -14,9 +14,9 @@ build-requires c =
     let task = c.args.task.now in
     let count = c.customer_count-n.ensures.count in
     let are = parts_are task c.in_ok-vars.vars c.in_ok-rows.rows c.customer_count-n.result c.in_ok-graphs.graphs c.in_ok-maps-2.maps c.in_ok-vars.ensures
-        (c.in_ok-rows.ensures ∙ ap rows_of count) count
-        (c.in_ok-graphs.ensures ∙ ap (λ (g : GraphParts). g ∷ []) c.in_ok-graph.ensures)
-        (c.in_ok-maps-2.ensures ∙ ap (λ (m : List (List ℕ)). m ∷ []) c.in_ok-maps.ensures) in
+    (c.in_ok-rows.ensures ∙ ap rows_of count) count
+    (c.in_ok-graphs.ensures ∙ ap (λ (g : GraphParts). g ∷ []) c.in_ok-graph.ensures)
+    (c.in_ok-maps-2.ensures ∙ ap (λ (m : List (List ℕ)). m ∷ []) c.in_ok-maps.ensures) in
     subst ModelFits (sym are) (model_fits task c.requires)
 
 pub unreachable-requires : goal.unreachable-requires
