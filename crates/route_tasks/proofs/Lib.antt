@@ -7,3 +7,4 @@ pub mod ArcLemmas
 pub mod FitLemmas
 pub mod ModelLemmas
 pub mod WalkLemmas
+mod Examples
