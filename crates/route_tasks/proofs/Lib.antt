@@ -7,4 +7,7 @@ pub mod ArcLemmas
 pub mod FitLemmas
 pub mod ModelLemmas
 pub mod WalkLemmas
+pub mod WayLemmas
+pub mod CostLemmas
+pub mod PlanLemmas
 mod Examples

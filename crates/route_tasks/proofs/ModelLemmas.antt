@@ -52,13 +52,13 @@ vars_fit task fits = record {
 }
 
 -- rows
-other_place : (n i k : ℕ) → i ≤ n → k < n → (other i k ≤ n) × (i ≢ other i k)
+pub other_place : (n i k : ℕ) → i ≤ n → k < n → (other i k ≤ n) × (i ≢ other i k)
 other_place n i k p l = elim (cases_lt k i) [
   | inl less ↦ let e : other i k ≡ k = grind (arith, nat_tests) in (omega (arith, e, l), λ same. omega (arith, same, e, less))
   | inr least ↦ let e : other i k ≡ k + 1 = grind (arith, nat_tests) in (omega (arith, e, l), λ same. omega (arith, same, e, least))
 ]
 
-abbrev term_at_other : ℕ → ℕ → ℕ → RowTerm
+abbrev pub term_at_other : ℕ → ℕ → ℕ → RowTerm
 term_at_other n i k = term_of n i (other i k)
 
 before_last : (n u v : ℕ) → u < v → v ≤ n → pairs_before n u + (n - u) ≤ pairs_before n v
@@ -97,10 +97,10 @@ variable_rises n i k p l = elim (cases_lt (k + 1) i) [
         let is_less : nat_lt i (j + 1) ≡ true = grind (arith, nat_tests) in
         ap (variable n i) e ∙ ap (λ b. if b then pair_number n i (j + 1) else pair_number n (j + 1) i) is_less
 
-terms_size : (n i : ℕ) → length (terms_of n i) ≡ n
+pub terms_size : (n i : ℕ) → length (terms_of n i) ≡ n
 terms_size n i = length-map-range_with_len (term_at_other n i) 0 n
 
-term_is : (n i k : ℕ) (d : RowTerm) → k < n → get_or (terms_of n i) k d ≡ term_at_other n i k
+pub term_is : (n i k : ℕ) (d : RowTerm) → k < n → get_or (terms_of n i) k d ≡ term_at_other n i k
 term_is n i k d l = get_or-map-range_with_len (term_at_other n i) 0 n k k d l (omega arith)
 
 row_fits : (n i count : ℕ) → i ≤ n → pairs_before n n ≡ count → RowFits count (row_of n i)
@@ -129,7 +129,7 @@ one_each n i j =
     one true = omega arith
     one false = omega arith
 
-rows_size : (n : ℕ) → length (rows_of n) ≡ n
+pub rows_size : (n : ℕ) → length (rows_of n) ≡ n
 rows_size n = length-map-range_with_len (row_of n) 1 n
 
 square_small : (n : ℕ) → n ≤ 244 → n * n ≤ 244 * 244
@@ -176,7 +176,7 @@ graphs_fit task fits = record {
       omega (arith, sums, fits.few_customers);
 }
 
-head_place : (n tail head : ℕ) → tail ≤ n → 1 ≤ head → head ≢ tail → (tail ≡ 0 → head ≤ n) → (or_depot n head ≤ n) × (tail ≢ or_depot n head)
+pub head_place : (n tail head : ℕ) → tail ≤ n → 1 ≤ head → head ≢ tail → (tail ≡ 0 → head ≤ n) → (or_depot n head ≤ n) × (tail ≢ or_depot n head)
 head_place n tail head from some differ both = elim (cases_lt n head) [
   | inl past ↦ let e : or_depot n head ≡ 0 = grind (arith, nat_tests) in (omega (arith, e), λ same. let l = both (omega (arith, same, e)) in omega (arith, l, past))
   | inr within ↦ let e : or_depot n head ≡ head = grind (arith, nat_tests) in (omega (arith, e, within), λ same. differ (omega (arith, same, e)))

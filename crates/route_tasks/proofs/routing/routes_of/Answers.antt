@@ -2,6 +2,7 @@ use Rattle.std.proofs.Common.{◌≡◌, ◌<◌, ◌∙◌, ap, sym, subst, All
 use Rattle.path_graph.specs.declared.parts.GraphArc.{GraphArc}
 use Rattle.route_model.specs.declared.plan.Taken.{Taken}
 use Rattle.route_tasks.proofs.WalkLemmas.{plan_known}
+use Rattle.route_tasks.proofs.PlanLemmas.{hits_are}
 use Rattle.route_tasks.proofs.routing.routes_of.Goals as goal
 
 moved : (arcs arcs2 : List GraphArc) (paths paths2 : List Taken) → arcs2 ≡ arcs → paths2 ≡ paths → All (λ (t : Taken). All (λ a. a < length arcs) t.arcs) paths → All (λ (t : Taken). All (λ a. a < length arcs2) t.arcs) paths2
