@@ -58,9 +58,10 @@ high_is : (n u w : ℕ) → u ≤ n → w ≤ n → u ≢ w → get_or (over_pai
 high_is n u w p q differ = ap (λ k. get_or (over_pairs n (λ low high. high)) k 0) (variable_is n u w differ) ∙ pair_at n (min u w) (max u w) (λ low high. high) 0 (omega (arith, differ)) (omega (arith, p, q))
 
 pub same_pair : (n u w v x : ℕ) → u ≤ n → w ≤ n → u ≢ w → v ≤ n → x ≤ n → v ≢ x → variable n u w ≡ variable n v x → (min u w ≡ min v x) × (max u w ≡ max v x)
-same_pair n u w v x a b c d e f same =
-    (sym (low_is n u w a b c) ∙ (ap (λ k. get_or (over_pairs n (λ low high. low)) k 0) same ∙ low_is n v x d e f),
-    sym (high_is n u w a b c) ∙ (ap (λ k. get_or (over_pairs n (λ low high. high)) k 0) same ∙ high_is n v x d e f))
+same_pair n u w v x a b c d e f same = (
+  sym (low_is n u w a b c) ∙ (ap (λ k. get_or (over_pairs n (λ low high. low)) k 0) same ∙ low_is n v x d e f),
+  sym (high_is n u w a b c) ∙ (ap (λ k. get_or (over_pairs n (λ low high. high)) k 0) same ∙ high_is n v x d e f),
+)
 
 pub variable_swap : (n u w : ℕ) → u ≢ w → variable n u w ≡ variable n w u
 variable_swap n u w differ =

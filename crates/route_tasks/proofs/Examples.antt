@@ -33,18 +33,27 @@ tenths = refl
 corners : root_of Euclid 80000000000 ≡ 282843
 corners =
     root_is Euclid 80000000000 282843
-    (record { none = λ e. absurd (omega (arith, e)); greatest = λ some. record { holds = omega arith; most = λ e h. elim (cases_lt 282843 e) [
-      | inl more ↦ let wide = square_rises 565687 (2 * e - 1) (omega (arith, more)) in absurd (omega (arith, wide, h))
-      | inr within ↦ within
-    ] } })
+    (record {
+      none = λ e. absurd (omega (arith, e));
+      greatest = λ some. record {
+        holds = omega arith;
+        most = λ e h. elim (cases_lt 282843 e) [
+          | inl more ↦ let wide = square_rises 565687 (2 * e - 1) (omega (arith, more)) in absurd (omega (arith, wide, h))
+          | inr within ↦ within
+        ];
+      };
+    })
 
 corners_in_tenths : root_of Tenths 80000000000 ≡ 2828427
 corners_in_tenths =
     root_is Tenths 80000000000 2828427
-    (record { holds = omega arith; most = λ e h. elim (cases_lt 2828427 e) [
-      | inl more ↦ let wide = square_rises 2828428 e more in absurd (omega (arith, wide, h))
-      | inr within ↦ within
-    ] })
+    (record {
+      holds = omega arith;
+      most = λ e h. elim (cases_lt 2828427 e) [
+        | inl more ↦ let wide = square_rises 2828428 e more in absurd (omega (arith, wide, h))
+        | inr within ↦ within
+      ];
+    })
 
 -- two customers with demands, without time
 abbrev stop : ℕ → ℤ → ℤ → ℤ → Stop

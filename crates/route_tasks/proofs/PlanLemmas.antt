@@ -106,6 +106,7 @@ hits_own n v w p q differ =
   where
     place : ℕ
     place = if nat_lt w v then w else w - 1
+
     both : (other v place ≡ w) × (place < n)
     both = elim (cases_lt w v) [
       | inl less ↦
@@ -118,10 +119,13 @@ hits_own n v w p q differ =
           let o : other v place ≡ place + 1 = grind (arith, nat_tests) in
           (o ∙ omega (arith, e, least, differ), omega (arith, e, least, differ, q))
     ]
+
     small : place < n
     small = both.1
+
     choice : (b d : Bool) → b ≡ d → pos 1 *ℤ pos (if b then 1 else 0) ≡ (if d then pos 1 else pos 0)
     choice b d e = times_choice b (pos 1) ∙ ap (λ c. if c then pos 1 else pos 0) e
+
     tests : (k : ℕ) → k < n → (variable n v w == variable n v (other v k)) ≡ (place == k)
     tests k l = elim (cases_eq place k) [
       | inl same ↦
@@ -133,12 +137,13 @@ hits_own n v w p q differ =
           let there = other_place n v k p l in
           let unlike : other v place ≢ other v k = other_differs v place k apart in
           let at : variable n v w ≢ variable n v (other v k) = λ e.
-              let pair = same_pair n v w v (other v k) p q differ p there.0 there.1 e in
-              unlike (both.0 ∙ omega (arith, pair.0, pair.1)) in
+          let pair = same_pair n v w v (other v k) p q differ p there.0 there.1 e in
+          unlike (both.0 ∙ omega (arith, pair.0, pair.1)) in
           let t : (variable n v w == variable n v (other v k)) ≡ false = grind (arith, nat_tests) in
           let s : (place == k) ≡ false = grind (arith, nat_tests) in
           t ∙ sym s
     ]
+
     each : (k : ℕ) → k < n → pos 1 *ℤ pos (if variable n v w == variable n v (other v k) then 1 else 0) ≡ (if place == k then pos 1 else pos 0)
     each k l = choice (variable n v w == variable n v (other v k)) (place == k) (tests k l)
 
@@ -150,8 +155,8 @@ hits_none n v u w p a b differ c d =
     each k l =
         let there = other_place n v k p l in
         let at : variable n u w ≢ variable n v (other v k) = λ e.
-            let pair = same_pair n u w v (other v k) a b differ p there.0 there.1 e in
-            omega (arith, pair.0, pair.1, c, d, differ) in
+        let pair = same_pair n u w v (other v k) a b differ p there.0 there.1 e in
+        omega (arith, pair.0, pair.1, c, d, differ) in
         let t : (variable n u w == variable n v (other v k)) ≡ false = grind (arith, nat_tests) in
         times_choice (variable n u w == variable n v (other v k)) (pos 1) ∙ ap (λ x. if x then pos 1 else pos 0) t
 
@@ -213,14 +218,15 @@ way_first task (a ∷ rest) [] way =
 way_first task (a ∷ rest) (w ∷ more) way =
     let some : 1 ≤ w = omega (arith, (arc_is task a way.0.there).some, way.0.head) in
     let set : visit_over (graph_of task) a ≡ Some (w - 1) =
-        ap (λ k. (vertex_at (vertices_of task) k).set) way.0.head
-        ∙ (ap (λ (x : Vertex). x.set) (vertex_is task w (omega (arith, way.1))) ∙ customer_set (customers task) w some way.1) in
+    ap (λ k. (vertex_at (vertices_of task) k).set) way.0.head
+    ∙ (ap (λ (x : Vertex). x.set) (vertex_is task w (omega (arith, way.1))) ∙ customer_set (customers task) w some way.1) in
     let counted = visit_count-cons (w - 1) (visit_over (graph_of task) a) (visits_along (graph_of task) rest) in
     let here : cond {A = ℕ} (is_visit (w - 1) (visit_over (graph_of task) a)) 1 0 ≡ 1 = ap (λ x. cond {A = ℕ} (is_visit (w - 1) x) 1 0) set ∙ own (w - 1) in
     (w - 1, omega (arith, some, way.1), omega (arith, counted, here))
   where
     customer_set : (n x : ℕ) → 1 ≤ x → x ≤ n → set_of n x ≡ Some (x - 1)
     customer_set n x some l = let t : (nat_lt 0 x && not (nat_lt n x)) ≡ true = grind (arith, nat_tests) in ap (λ b. if b then Some (x - 1) else None) t
+
     own : (k : ℕ) → cond {A = ℕ} (k == k) 1 0 ≡ 1
     own k = let t : (k == k) ≡ true = grind (arith, nat_tests) in ap (λ b. cond {A = ℕ} b 1 0) t
 
@@ -237,19 +243,25 @@ each_once task plan solution k d l = record { graph = path.graph; count = once; 
   where
     t : Taken
     t = get_or plan.paths k d
+
     path : IsTaskPath task t
     path = each_path task plan solution.paths k d l
+
     first : (s : ℕ) × (s < customers task) × (1 ≤ visit_count s (visits_along (graph_of task) t.arcs))
     first = way_first task t.arcs (visited task t.arcs) (path_way task t path)
+
     few : t.count * visits_in (model_of task).graphs first.0 t.graph t.arcs ≤ 1
     few =
         let all = solution.sets first.0 first.1 in
         let one = get_or-le-sum_by (λ (u : Taken). u.count * visits_in (model_of task).graphs first.0 u.graph u.arcs) plan.paths k d l in
         omega (arith, all, one)
+
     some : 1 ≤ visits_in (model_of task).graphs first.0 t.graph t.arcs
     some = subst (λ (g : ℕ). 1 ≤ visits_in (model_of task).graphs first.0 g t.arcs) (sym path.graph) first.2
+
     only : (c x : ℕ) → c * x ≤ 1 → 1 ≤ x → 1 ≤ c → c ≡ 1
     only c x p q r = let least : c ≤ c = omega arith in let wide : c * 1 ≤ c * x = mul-le-mul least q in omega (arith, p, r, wide)
+
     once : t.count ≡ 1
     once = only t.count (visits_in (model_of task).graphs first.0 t.graph t.arcs) few some path.count
 
@@ -276,12 +288,15 @@ row_value task plan v each some l =
   where
     spot : ℕ → ℕ
     spot k = variable (customers task) v (other v k)
+
     term : (k : ℕ) → RowTerm → ℤ
     term k t = t.coef *ℤ pos (value_of (model_of task) plan t.var)
+
     values : (k : ℕ) → k < customers task → (term_at (terms_of (customers task) v) k).coef *ℤ pos (value_of (model_of task) plan (term_at (terms_of (customers task) v) k).var) ≡ pos 1 *ℤ pos (sum_by (λ (t : Taken). uses_in (model_of task).maps (spot k) 0 t.arcs) plan.paths)
     values k below =
         ap (λ (t : RowTerm). t.coef *ℤ pos (value_of (model_of task) plan t.var)) (term_is (customers task) v k _ below)
         ∙ ap (λ n. pos 1 *ℤ pos n) (plain_quantity task (uses_in (model_of task).maps (spot k)) plan each)
+
     paths : All (λ (t : Taken). sum_below (customers task) (λ k. pos 1 *ℤ pos (uses_in (model_of task).maps (spot k) 0 t.arcs)) ≡ pos (2 * count_by (λ x. x == v) (visited task t.arcs))) plan.paths
     paths k d below =
         let t : Taken = get_or plan.paths k d in
@@ -302,12 +317,14 @@ plan_price task plan each =
   where
     price : ℕ → ℤ
     price j = (var_at (vars_of task) j).cost
+
     arcs_price : (u : ℕ) (arcs route : List ℕ) → IsWay task u arcs route → sum_over (λ a. sum_below (length (vars_of task)) (λ j. price j *ℤ pos (if is_mapped (model_of task).maps j 0 a then 1 else 0))) arcs ≡ sum_over (arc_price task) arcs
     arcs_price u [] route way = refl
     arcs_price u (a ∷ rest) [] way =
         (λ i. arc_picks task price (length (vars_of task)) a way.0.there (arc_variable_below task a way.0.there) i +ℤ sum_over (λ b. sum_below (length (vars_of task)) (λ j. price j *ℤ pos (if is_mapped (model_of task).maps j 0 b then 1 else 0))) (way.1 i))
         ∙ ap (λ xs. arc_price task a +ℤ sum_over (arc_price task) xs) (sym way.1)
     arcs_price u (a ∷ rest) (v ∷ more) way = λ i. arc_picks task price (length (vars_of task)) a way.0.there (arc_variable_below task a way.0.there) i +ℤ arcs_price v rest more way.2 i
+
     paths : All (λ (t : Taken). sum_below (length (vars_of task)) (λ j. price j *ℤ pos (uses_in (model_of task).maps j 0 t.arcs)) ≡ way_of task 0 (visited task t.arcs)) plan.paths
     paths k d below =
         let t : Taken = get_or plan.paths k d in
@@ -321,15 +338,18 @@ plan_routes task plan fits solution = record { few = few; each = each; once = on
   where
     are : All (IsOnce task) plan.paths
     are = each_once task plan solution
+
     few : length (routes_in task plan) ≤ task.vehicles
     few =
         let most = (solution.counts 0 (omega arith)).1 in
         let count = plain_quantity task (is_of 0) plan are in
         omega (arith, most, count, count_items plan.paths, length-map plan.paths (λ (t : Taken). visited task t.arcs))
+
     each : All (IsRoute task) (routes_in task plan)
     each = All-map (IsRoute task) (λ (t : Taken). visited task t.arcs) plan.paths (λ k d l.
         let path = each_path task plan solution.paths k d l in
         walk_route task (get_or plan.paths k d).arcs fits path.walk)
+
     once : (v : ℕ) → IsCustomer task v → sum_by (count_by (λ u. u == v)) (routes_in task plan) ≡ 1
     once v is =
         let holds = solution.rows (v - 1) (omega (arith, rows_size (customers task), is.0, is.1)) in

@@ -126,13 +126,13 @@ over_load task u a v value s l =
     moved_load (is_timed task.style) (is_load_main task) value.at (arc_at (arcs_of task) a).needs (vertex_at (vertices_of task) (arc_at (arcs_of task) a).head).windows
     ∙ (λ i. int_max (window_at (step_windows task u a v s l i) (spot_of task)).low (int_at value.at (spot_of task) +ℤ int_at (step_needs task u a v s i) (spot_of task)))
     ∙ (λ i. int_max (laid_window (is_timed task.style) (is_load_main task) (window (pos 10 *ℤ (place_at task v).ready) (pos 10 *ℤ (place_at task v).due)) (window (pos 0) (pos (customers task))) (window (pos 0) task.capacity) (window (pos 0) (pos 0)) i).low
-        (int_at value.at (spot_of task) +ℤ laid_load (is_timed task.style) (is_load_main task) (time_need task u v) (stop_need (customers task) v) (place_at task v).demand i))
+    (int_at value.at (spot_of task) +ℤ laid_load (is_timed task.style) (is_load_main task) (time_need task u v) (stop_need (customers task) v) (place_at task v).demand i))
 
 takes_load : (task : RouteTask) (u a v : ℕ) (value : Values) → IsStep task u a v → v ≤ customers task + 1 → Takes (graph_of task) value a → int_at (over_of (graph_of task) value a).at (spot_of task) ≤ℤ task.capacity
 takes_load task u a v value s l takes =
     let high = takes (spot_of task) (spot_small (is_timed task.style) (is_load_main task)) in
     let is = ap (λ (ws : List Window). (window_at ws (spot_of task)).high) (step_windows task u a v s l)
-        ∙ ap (λ (w : Window). w.high) (laid_window (is_timed task.style) (is_load_main task) (window (pos 10 *ℤ (place_at task v).ready) (pos 10 *ℤ (place_at task v).due)) (window (pos 0) (pos (customers task))) (window (pos 0) task.capacity) (window (pos 0) (pos 0))) in
+    ∙ ap (λ (w : Window). w.high) (laid_window (is_timed task.style) (is_load_main task) (window (pos 10 *ℤ (place_at task v).ready) (pos 10 *ℤ (place_at task v).due)) (window (pos 0) (pos (customers task))) (window (pos 0) task.capacity) (window (pos 0) (pos 0))) in
     subst (λ (z : ℤ). int_at (over_of (graph_of task) value a).at (spot_of task) ≤ℤ z) is high
 
 pub way_load : (task : RouteTask) (u : ℕ) (arcs route : List ℕ) (value : Values) → TaskFits task → IsWay task u arcs route → Passes (graph_of task) value arcs → (int_at value.at (spot_of task) +ℤ load_of task route) ≤ℤ task.capacity
@@ -178,7 +178,7 @@ over_time : (task : RouteTask) (u a v : ℕ) (value : Values) → is_timed task.
 over_time task u a v value t s l =
     (λ i. int_max (window_at (step_windows task u a v s l i) 0).low (int_at value.at 0 +ℤ int_at (step_needs task u a v s i) 0))
     ∙ (λ i. int_max (time_window task v t i).low
-        (int_at value.at 0 +ℤ laid_time (is_timed task.style) (is_load_main task) (time_need task u v) (stop_need (customers task) v) (place_at task v).demand (pos 0) t i))
+    (int_at value.at 0 +ℤ laid_time (is_timed task.style) (is_load_main task) (time_need task u v) (stop_need (customers task) v) (place_at task v).demand (pos 0) t i))
 
 takes_time : (task : RouteTask) (u a v : ℕ) (value : Values) → is_timed task.style ≡ true → IsStep task u a v → v ≤ customers task + 1 → Takes (graph_of task) value a → time_after task u (int_at value.at 0) v ≤ℤ (pos 10 *ℤ (place_at task v).due)
 takes_time task u a v value t s l takes =
@@ -194,9 +194,10 @@ pub way_times : (task : RouteTask) (u : ℕ) (arcs route : List ℕ) (value : Va
 way_times task u [] route value t way passes = absurd way
 way_times task u (a ∷ rest) [] value t way passes =
     subst (is_reached task u (int_at value.at 0)) (sink_place task) (takes_time task u a (customers task + 1) value t way.0 (omega arith) passes.0)
-way_times task u (a ∷ rest) (v ∷ more) value t way passes =
-    (takes_time task u a v value t way.0 (omega (arith, way.1)) passes.0,
-    subst (λ (z : ℤ). KeepsTimes task v z more) (over_time task u a v value t way.0 (omega (arith, way.1))) (way_times task v rest more (over_of (graph_of task) value a) t way.2 passes.1))
+way_times task u (a ∷ rest) (v ∷ more) value t way passes = (
+  takes_time task u a v value t way.0 (omega (arith, way.1)) passes.0,
+  subst (λ (z : ℤ). KeepsTimes task v z more) (over_time task u a v value t way.0 (omega (arith, way.1))) (way_times task v rest more (over_of (graph_of task) value a) t way.2 passes.1),
+)
 
 -- a feasible walk is the way of a route
 spot_mapped : (t l : Bool) (f : ℕ → ℤ) → int_at (map f (0 ∷ 1 ∷ 2 ∷ 3 ∷ 4 ∷ 5 ∷ [])) (load_spot t l) ≡ f (load_spot t l)
@@ -227,6 +228,7 @@ walk_route task arcs fits walk = record {
   where
     way : IsWay task 0 arcs (visited task arcs)
     way = way_is task 0 arcs (omega arith) walk.walk
+
     times : (style : Style) → task.style ≡ style → IsOnTime style task (visited task arcs)
     times Euclid e = tt
     times Tenths e =

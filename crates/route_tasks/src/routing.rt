@@ -1,9 +1,10 @@
 ghost use Rattle.std.specs.Prelude.{◌≡◌, ℕ, ◌<◌, ◌≤◌, All, length, map, IfOk, List};
+ghost use Rattle.route_model.specs.Quantities.{cost_of};
 ghost use Rattle.route_model.specs.Solution.{IsSolution};
 ghost use Rattle.route_tasks.specs.Fit.{TaskFits};
 ghost use Rattle.route_tasks.specs.Places.{place_at, customers};
 ghost use Rattle.route_tasks.specs.ModelOf.{arcs_of, model_of};
-ghost use Rattle.route_tasks.specs.Routes.{visited, routes_in, numbers_of};
+ghost use Rattle.route_tasks.specs.Routes.{visited, routes_in, numbers_of, IsNumberedPlan};
 
 use crate::graphs::arcs;
 use crate::places::{customer_count, place};
@@ -55,11 +56,13 @@ fn routes(
 
 /// The numbers of the customers of a solution, path by path.
 ///
-/// In a solution each customer is visited once, so each path is taken once.
+/// They are a route plan that costs what the solution does. In a solution each customer is visited once, so each path is
+/// taken once.
 pub fn routes_of(alloc: Global, task: &RouteTask, plan: &Plan) -> Result<List<List<u32>>, NoMemory>
     requires fits { TaskFits task.now }
     requires solution { IsSolution (model_of task.now) plan.now }
     ensures numbers { IfOk result (λ routes. routes ≡ numbers_of task.now (routes_in task.now plan.now)) }
+    ensures plan { IfOk result (IsNumberedPlan task.now (cost_of (model_of task.now) plan.now)) }
 {
     let arcs = arcs(alloc, task)?;
     routes(alloc, task, arcs.as_slice(), plan.paths.as_slice())
