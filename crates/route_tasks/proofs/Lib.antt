@@ -10,4 +10,5 @@ pub mod WalkLemmas
 pub mod WayLemmas
 pub mod CostLemmas
 pub mod PlanLemmas
+pub mod MadeLemmas
 mod Examples

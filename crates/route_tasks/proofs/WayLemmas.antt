@@ -187,7 +187,7 @@ takes_time task u a v value t s l takes =
     subst (λ (z : ℤ). z ≤ℤ (pos 10 *ℤ (place_at task v).due)) (over_time task u a v value t s l)
     (subst (λ (z : ℤ). int_at (over_of (graph_of task) value a).at 0 ≤ℤ z) is high)
 
-abbrev is_reached : RouteTask → ℕ → ℤ → Stop → Type 0
+abbrev pub is_reached : RouteTask → ℕ → ℤ → Stop → Type 0
 is_reached task u time s = int_max (pos 10 *ℤ s.ready) (time +ℤ ((pos 10 *ℤ (place_at task u).service) +ℤ pos (distance_of task.style (place_at task u) s))) ≤ℤ (pos 10 *ℤ s.due)
 
 pub way_times : (task : RouteTask) (u : ℕ) (arcs route : List ℕ) (value : Values) → is_timed task.style ≡ true → IsWay task u arcs route → Passes (graph_of task) value arcs → KeepsTimes task u (int_at value.at 0) route
@@ -206,7 +206,7 @@ spot_mapped true false f = refl
 spot_mapped false true f = refl
 spot_mapped false false f = refl
 
-source_windows : (task : RouteTask) → (vertex_at (vertices_of task) 0).windows ≡ windows_of task 0
+pub source_windows : (task : RouteTask) → (vertex_at (vertices_of task) 0).windows ≡ windows_of task 0
 source_windows task = ap (λ (x : Vertex). x.windows) (vertex_is task 0 (omega arith))
 
 root_load : (task : RouteTask) → int_at (root_of (graph_of task)).at (spot_of task) ≡ pos 0
