@@ -11,4 +11,5 @@ pub mod WayLemmas
 pub mod CostLemmas
 pub mod PlanLemmas
 pub mod MadeLemmas
+pub mod SolveLemmas
 mod Examples

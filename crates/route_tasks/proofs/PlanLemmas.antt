@@ -40,7 +40,7 @@ use Rattle.route_tasks.proofs.WayLemmas.{IsStep, IsWay, way_is, walk_route}
 use Rattle.route_tasks.proofs.CostLemmas.{arc_variable, arc_variable_below, arc_price, way_price, same_pair, variable_swap, step_variable, step_from, step_differs, inside_head, sink_head}
 
 -- sums of sums over a list are sums over the list
-sums_over : {X : Type 0} (n : ℕ) (a : ℕ → ℤ) (f : ℕ → X → ℕ) (xs : List X) → sum_below n (λ j. a j *ℤ pos (sum_by (f j) xs)) ≡ sum_over (λ x. sum_below n (λ j. a j *ℤ pos (f j x))) xs
+pub sums_over : {X : Type 0} (n : ℕ) (a : ℕ → ℤ) (f : ℕ → X → ℕ) (xs : List X) → sum_below n (λ j. a j *ℤ pos (sum_by (f j) xs)) ≡ sum_over (λ x. sum_below n (λ j. a j *ℤ pos (f j x))) xs
 sums_over n a f [] = (λ i. sum_below n (λ j. *ℤ-zero (a j) i)) ∙ sum_below-zero n
 sums_over {X} n a f (x ∷ xs) =
     (λ i. sum_below n (λ j. a j *ℤ pos (sum_by-cons (f j) x xs i)))
@@ -49,7 +49,7 @@ sums_over {X} n a f (x ∷ xs) =
     ∙ ap (λ (z : ℤ). sum_below n (λ j. a j *ℤ pos (f j x)) +ℤ z) (sums_over n a f xs)))
 
 -- sums over items that are equal at each
-over_each : {X : Type 0} (f h : X → ℤ) (xs : List X) → All (λ x. f x ≡ h x) xs → sum_over f xs ≡ sum_over h xs
+pub over_each : {X : Type 0} (f h : X → ℤ) (xs : List X) → All (λ x. f x ≡ h x) xs → sum_over f xs ≡ sum_over h xs
 over_each f h [] each = refl
 over_each f h (x ∷ xs) each = λ i. each 0 x (omega arith) i +ℤ over_each f h xs (λ k d l. each (suc k) d (omega (arith, l))) i
 
@@ -60,7 +60,7 @@ by_each f h (x ∷ xs) each =
     let rest = by_each f h xs (λ k d l. each (suc k) d (omega (arith, l))) in
     omega (arith, sum_by-cons f x xs, sum_by-cons h x xs, here, rest)
 
-sum_mapped : {X Y : Type 0} (f : Y → ℕ) (g : X → Y) (xs : List X) → sum_by f (map g xs) ≡ sum_by (λ x. f (g x)) xs
+pub sum_mapped : {X Y : Type 0} (f : Y → ℕ) (g : X → Y) (xs : List X) → sum_by f (map g xs) ≡ sum_by (λ x. f (g x)) xs
 sum_mapped f g [] = refl
 sum_mapped f g (x ∷ xs) = let rest = sum_mapped f g xs in omega (arith, sum_by-cons f (g x) (map g xs), sum_by-cons (λ y. f (g y)) x xs, rest)
 
@@ -72,7 +72,7 @@ doubled : {X : Type 0} (f : X → ℕ) (xs : List X) → sum_over (λ x. pos (2 
 doubled f [] = refl
 doubled f (x ∷ xs) = let rest = doubled f xs in omega (arith, ints, rest, sum_by-cons f x xs)
 
-count_items : {X : Type 0} (xs : List X) → sum_by (λ x. 1) xs ≡ length xs
+pub count_items : {X : Type 0} (xs : List X) → sum_by (λ x. 1) xs ≡ length xs
 count_items [] = refl
 count_items (x ∷ xs) = let rest = count_items xs in omega (arith, sum_by-cons (λ y. 1) x xs, rest)
 
@@ -84,7 +84,7 @@ alone : (b : Bool) → (b || false) ≡ b
 alone true = refl
 alone false = refl
 
-mapped_test : (task : RouteTask) (j a : ℕ) → a < length (arcs_of task) → is_mapped (model_of task).maps j 0 a ≡ (arc_variable task a == j)
+pub mapped_test : (task : RouteTask) (j a : ℕ) → a < length (arcs_of task) → is_mapped (model_of task).maps j 0 a ≡ (arc_variable task a == j)
 mapped_test task j a l = ap (list_any (λ i. i == j)) (mapped_is task a l) ∙ alone (arc_variable task a == j)
 
 arc_picks : (task : RouteTask) (c : ℕ → ℤ) (n a : ℕ) → a < length (arcs_of task) → arc_variable task a < n → sum_below n (λ j. c j *ℤ pos (if is_mapped (model_of task).maps j 0 a then 1 else 0)) ≡ c (arc_variable task a)
@@ -93,7 +93,7 @@ arc_picks task c n a l below =
     ∙ ((λ i. sum_below n (λ j. times_choice (arc_variable task a == j) (c j) i)) ∙ sum_below-pick c (arc_variable task a) n below)
 
 -- which of a customer's pairs an arc between two places uses
-abbrev hits : ℕ → ℕ → ℕ → ℤ
+abbrev pub hits : ℕ → ℕ → ℕ → ℤ
 hits n v x = sum_below n (λ k. pos 1 *ℤ pos (if x == variable n v (other v k) then 1 else 0))
 
 other_differs : (x j k : ℕ) → j ≢ k → other x j ≢ other x k
@@ -179,7 +179,7 @@ hits_are n v u w p a b differ = elim (cases_eq u v) [
 ]
 
 -- the arcs of a way touch a customer twice for each time that the way goes through it
-touches : RouteTask → ℕ → ℕ → ℤ
+pub touches : RouteTask → ℕ → ℕ → ℤ
 touches task v a = sum_below (customers task) (λ k. pos 1 *ℤ pos (if is_mapped (model_of task).maps (variable (customers task) v (other v k)) 0 a then 1 else 0))
 
 step_touches : (task : RouteTask) (u a h w v : ℕ) → IsStep task u a h → or_depot (customers task) h ≡ w → v ≤ customers task → touches task v a ≡ pos ((if u == v then 1 else 0) + (if w == v then 1 else 0))
@@ -273,10 +273,10 @@ plain_quantity task f plan each =
     (λ i. is.count i * f (is.graph i) (get_or plan.paths k d).arcs) ∙ omega arith)
 
 -- the sum of a customer's row is twice the number of its visits
-row_at_is : (task : RouteTask) (v : ℕ) → 1 ≤ v → v ≤ customers task → row_at (model_of task).rows (v - 1) ≡ row_of (customers task) v
+pub row_at_is : (task : RouteTask) (v : ℕ) → 1 ≤ v → v ≤ customers task → row_at (model_of task).rows (v - 1) ≡ row_of (customers task) v
 row_at_is task v some l = get_or-map-range_with_len (row_of (customers task)) 1 (customers task) (v - 1) v _ (omega (arith, some, l)) (omega (arith, some))
 
-row_value : (task : RouteTask) (plan : Plan) (v : ℕ) → All (IsOnce task) plan.paths → 1 ≤ v → v ≤ customers task
+pub row_value : (task : RouteTask) (plan : Plan) (v : ℕ) → All (IsOnce task) plan.paths → 1 ≤ v → v ≤ customers task
     → row_sum (model_of task) plan (terms_of (customers task) v) ≡ pos (2 * sum_by (λ t. count_by (λ x. x == v) (visited task t.arcs)) plan.paths)
 unfolding touches
 row_value task plan v each some l =
@@ -307,7 +307,7 @@ row_value task plan v each some l =
         ∙ (λ i. pos ((if apart i then 1 else 0) + 2 * count_by (λ x. x == v) (visited task t.arcs))) ∙ omega (arith, ints))
 
 -- the cost of a plan is that of its ways
-plan_price : (task : RouteTask) (plan : Plan) → All (IsOnce task) plan.paths → cost_of (model_of task) plan ≡ route_cost task (routes_in task plan)
+pub plan_price : (task : RouteTask) (plan : Plan) → All (IsOnce task) plan.paths → cost_of (model_of task) plan ≡ route_cost task (routes_in task plan)
 plan_price task plan each =
     sum_below-same (length (vars_of task)) (λ j. price j *ℤ pos (value_of (model_of task) plan j)) (λ j. price j *ℤ pos (sum_by (λ (t : Taken). uses_in (model_of task).maps j 0 t.arcs) plan.paths))
     (λ j below. ap (λ n. price j *ℤ pos n) (plain_quantity task (uses_in (model_of task).maps j) plan each))

@@ -10,6 +10,7 @@ use Rattle.route_tasks.specs.declared.limits.TheConstants.{TENTHS}
 use Rattle.route_tasks.specs.declared.task.Style.{Style}
 use Rattle.route_tasks.specs.declared.task.Style.TheVariants.{Euclid, Tenths}
 use Rattle.route_tasks.specs.declared.task.RouteTask.{RouteTask}
+use Rattle.route_tasks.specs.Fit.{TaskFits}
 use Rattle.route_tasks.specs.Places.{customers, place_at, distance_at}
 use Rattle.route_tasks.specs.ModelOf.{arcs_of, model_of}
 
@@ -82,3 +83,7 @@ pub record HasSolution (task : RouteTask) (routes : List (List ℕ)) : Type 0 wh
   pub plan : Plan
   pub solution : IsSolution (model_of task) plan
   pub equal_cost : cost_of (model_of task) plan ≡ route_cost task routes
+
+-- each route plan of a task has a solution of the task's model with equal cost
+abbrev pub RoutesHaveSolutionsLaw : Type 0
+RoutesHaveSolutionsLaw = (task : RouteTask) → TaskFits task → (routes : List (List ℕ)) → IsRoutePlan task routes → HasSolution task routes

@@ -4,6 +4,7 @@
 mod building;
 mod distances;
 mod graphs;
+mod laws;
 mod limits;
 mod places;
 mod routing;
@@ -12,6 +13,7 @@ mod task;
 
 pub use building::build_model;
 pub use distances::distance;
+pub use laws::routes_have_solutions;
 pub use limits::{
     MAX_COORDINATE, MAX_CUSTOMERS, MAX_DISTANCE, MAX_LOAD, MAX_NUMBER, MAX_SERVICE, MAX_TIME,
     MAX_VEHICLES, TENTHS,
