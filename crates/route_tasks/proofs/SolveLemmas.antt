@@ -21,8 +21,8 @@ use Rattle.route_model.specs.declared.parts.Var.{Var}
 use Rattle.route_model.specs.declared.parts.Row.{Row}
 use Rattle.route_model.specs.declared.plan.Taken.{Taken}
 use Rattle.route_model.specs.declared.plan.Plan.{Plan}
-use Rattle.route_model.specs.Parts.{taken_at, var_at, row_at}
-use Rattle.route_model.specs.Quantities.{is_mapped, uses_in, visits_in, is_of, value_of, row_sum}
+use Rattle.route_model.specs.Parts.{taken_at, var_at, row_at, graph_in}
+use Rattle.route_model.specs.Quantities.{is_mapped, uses_in, visits_in, is_of, value_of, row_sum, paths_of}
 use Rattle.route_model.specs.Solution.{IsSolution, IsPath, InBox, RowHolds, IsBetween}
 use Rattle.route_tasks.specs.declared.task.Style.{Style}
 use Rattle.route_tasks.specs.declared.task.Style.TheVariants.{Euclid, Tenths}
@@ -37,7 +37,7 @@ use Rattle.route_tasks.proofs.ArcLemmas.{arc_is}
 use Rattle.route_tasks.proofs.FitLemmas.{vertex_is}
 use Rattle.route_tasks.proofs.ModelLemmas.{rows_size}
 use Rattle.route_tasks.proofs.WayLemmas.{IsStep, IsWay, source_windows}
-use Rattle.route_tasks.proofs.CostLemmas.{arc_variable, same_pair, step_variable, step_from, step_differs, inside_head, sink_head}
+use Rattle.route_tasks.proofs.CostLemmas.{arc_variable, same_pair, variable_swap, step_variable, step_from, step_differs, inside_head, sink_head}
 use Rattle.route_tasks.proofs.PlanLemmas.{IsOnce, sums_over, over_each, count_items, mapped_test, plain_quantity, row_at_is, row_value, plan_price, sum_mapped}
 use Rattle.route_tasks.proofs.MadeLemmas.{way_for, IsSparse, rest_sparse, not_again, way_made, way_leads, way_visits, way_passes}
 
@@ -227,3 +227,214 @@ uses_touch task u (a ∷ rest) (v ∷ more) p q some l m differ way =
         ap (λ x. cond {A = ℕ} (x == variable (customers task) p q) 1 0) (step_variable task u a v v way.0 e) in
     let later = uses_touch task v rest more p q some l m differ way.2 in
     omega (arith, one, is, later, uses_next task (variable (customers task) p q) a rest way.0.there, sum_by-cons (λ x. if x == p then 1 else 0) v more)
+
+-- where no place stands twice, a pair of customers is used once
+at_most_one : (b : Bool) → cond {A = ℕ} b 1 0 ≤ 1
+at_most_one true = omega arith
+at_most_one false = omega arith
+
+way_once : (task : RouteTask) (u : ℕ) (arcs route : List ℕ) (p q : ℕ) → 1 ≤ u → 1 ≤ p → p ≤ customers task → 1 ≤ q → q ≤ customers task → p ≢ q → IsSparse (u ∷ route) → IsWay task u arcs route → uses task (variable (customers task) p q) arcs ≤ 1
+way_once task u [] route p q first some l more m differ sparse way = absurd way
+way_once task u (a ∷ rest) [] p q first some l more m differ sparse way =
+    let nothing : uses task (variable (customers task) p q) rest ≡ 0 = ap (uses task (variable (customers task) p q)) way.1 in
+    omega (arith, nothing, uses_next task (variable (customers task) p q) a rest way.0.there, at_most_one (arc_variable task a == variable (customers task) p q))
+way_once task u (a ∷ rest) (v ∷ others) p q first some l more m differ sparse way =
+    by_first (cases_eq (variable (customers task) u v) (variable (customers task) p q)) (way_once task v rest others p q (omega (arith, (arc_is task a way.0.there).some, way.0.head)) some l more m differ (rest_sparse u (v ∷ others) sparse) way.2)
+  where
+    e : or_depot (customers task) v ≡ v
+    e = inside_head (customers task) v way.1
+    d : (v ≤ customers task) × (u ≢ v)
+    d = step_differs task u a v v way.0 e
+    next : uses task (variable (customers task) p q) (a ∷ rest) ≡ cond (arc_variable task a == variable (customers task) p q) 1 0 + uses task (variable (customers task) p q) rest
+    next = uses_next task (variable (customers task) p q) a rest way.0.there
+    none_later : uses task (variable (customers task) u v) rest ≤ 0
+    none_later =
+        let touch = uses_touch task v rest others u v first (step_from task u a v way.0) way.1 d.1 way.2 in
+        let apart : v ≢ u = λ s. d.1 (sym s) in
+        let t : (v == u) ≡ false = grind (arith, nat_tests) in
+        let z : cond {A = ℕ} (v == u) 1 0 ≡ 0 = ap (λ b. cond {A = ℕ} b 1 0) t in
+        omega (arith, touch, z, not_again u (v ∷ others) sparse, sum_by-cons (λ x. if x == u then 1 else 0) v others)
+    by_first : (variable (customers task) u v ≡ variable (customers task) p q) ⊎ (variable (customers task) u v ≢ variable (customers task) p q) → uses task (variable (customers task) p q) rest ≤ 1 → uses task (variable (customers task) p q) (a ∷ rest) ≤ 1
+    by_first (inl same) later =
+        let here : uses task (variable (customers task) p q) rest ≤ 0 = subst (λ (j : ℕ). uses task j rest ≤ 0) same none_later in
+        omega (arith, next, here, at_most_one (arc_variable task a == variable (customers task) p q))
+    by_first (inr apart) later =
+        let at : arc_variable task a ≢ variable (customers task) p q = λ s. apart (sym (step_variable task u a v v way.0 e) ∙ s) in
+        let t : (arc_variable task a == variable (customers task) p q) ≡ false = grind (arith, nat_tests) in
+        let z : cond {A = ℕ} (arc_variable task a == variable (customers task) p q) 1 0 ≡ 0 = ap (λ b. cond {A = ℕ} b 1 0) t in
+        omega (arith, next, z, later)
+
+route_once : (task : RouteTask) (arcs route : List ℕ) (p q : ℕ) → 1 ≤ p → p ≤ customers task → 1 ≤ q → q ≤ customers task → p ≢ q → IsSparse route → IsWay task 0 arcs route → uses task (variable (customers task) p q) arcs ≤ 1
+route_once task [] route p q some l more m differ sparse way = absurd way
+route_once task (a ∷ rest) [] p q some l more m differ sparse way =
+    let nothing : uses task (variable (customers task) p q) rest ≡ 0 = ap (uses task (variable (customers task) p q)) way.1 in
+    omega (arith, nothing, uses_next task (variable (customers task) p q) a rest way.0.there, at_most_one (arc_variable task a == variable (customers task) p q))
+route_once task (a ∷ rest) (v ∷ others) p q some l more m differ sparse way =
+    let e = inside_head (customers task) v way.1 in
+    let d = step_differs task 0 a v v way.0 e in
+    let at : arc_variable task a ≢ variable (customers task) p q = λ s.
+        let pair = same_pair (customers task) 0 v p q (omega arith) way.1 d.1 l m differ (sym (step_variable task 0 a v v way.0 e) ∙ s) in
+        omega (arith, pair.0, some, more) in
+    let t : (arc_variable task a == variable (customers task) p q) ≡ false = grind (arith, nat_tests) in
+    let z : cond {A = ℕ} (arc_variable task a == variable (customers task) p q) 1 0 ≡ 0 = ap (λ b. cond {A = ℕ} b 1 0) t in
+    let later = way_once task v rest others p q (omega (arith, (arc_is task a way.0.there).some, way.0.head)) some l more m differ sparse way.2 in
+    omega (arith, z, later, uses_next task (variable (customers task) p q) a rest way.0.there)
+
+-- each variable is that of a pair
+record IsPair (n j : ℕ) : Type 0 where
+  low : ℕ
+  high : ℕ
+  order : low < high
+  within : high ≤ n
+  is : j ≡ pair_number n low high
+
+pair_of : (n m j : ℕ) → m ≤ n → j < pairs_before n m → IsPair n j
+pair_of n zero j l below = absurd (omega (arith, below))
+pair_of n (suc m) j l below = by_row (cases_lt j (pairs_before n m)) (pair_of n m j (omega (arith, l)))
+  where
+    more : pairs_before n (suc m) ≡ pairs_before n m + (n - m)
+    more = ap (pairs_before n) (next m) ∙ before_more n m
+      where
+        next : (k : ℕ) → suc k ≡ k + 1
+        next k = omega arith
+    by_row : (j < pairs_before n m) ⊎ (pairs_before n m ≤ j) → (j < pairs_before n m → IsPair n j) → IsPair n j
+    by_row (inl less) before = before less
+    by_row (inr least) before = record { low = m; high = m + 1 + (j - pairs_before n m); order = omega arith; within = omega (arith, more, below, least, l); is = omega (arith, least) }
+
+pair_variable : (n low high : ℕ) → low < high → variable n low high ≡ pair_number n low high
+pair_variable n low high l = let t : nat_lt low high ≡ true = grind (arith, nat_tests) in ap (λ b. if b then pair_number n low high else pair_number n high low) t
+
+-- sums that are at most others
+sum_at_most : {X : Type 0} (f h : X → ℕ) (xs : List X) → All (λ x. f x ≤ h x) xs → sum_by f xs ≤ sum_by h xs
+sum_at_most f h [] each = omega arith
+sum_at_most f h (x ∷ xs) each =
+    let rest = sum_at_most f h xs (λ k d l. each (suc k) d (omega (arith, l))) in
+    omega (arith, rest, each 0 x (omega arith), sum_by-cons f x xs, sum_by-cons h x xs)
+
+twice_sum : {X : Type 0} (f : X → ℕ) (xs : List X) → sum_by (λ x. 2 * f x) xs ≡ 2 * sum_by f xs
+twice_sum f [] = refl
+twice_sum f (x ∷ xs) = let rest = twice_sum f xs in omega (arith, rest, sum_by-cons f x xs, sum_by-cons (λ y. 2 * f y) x xs)
+
+-- the plan of routes
+abbrev taken_for : RouteTask → List ℕ → Taken
+taken_for task route = record { graph = 0; count = 1; arcs = way_for task 0 route }
+
+abbrev plan_for : RouteTask → List (List ℕ) → Plan
+plan_for task routes = record { paths = map (taken_for task) routes }
+
+module _ (task : RouteTask) (fits : TaskFits task) (routes : List (List ℕ)) (plan : IsRoutePlan task routes) where
+  way_at : (k : ℕ) (d : List ℕ) → k < length routes → IsWay task 0 (way_for task 0 (get_or routes k d)) (get_or routes k d)
+  way_at k d l = way_made task (get_or routes k d) (plan.each k d l).some (plan.each k d l).customers_only (route_sparse task routes k d plan l)
+
+  each_taken : All (IsOnce task) (map (taken_for task) routes)
+  each_taken = All-map (IsOnce task) (taken_for task) routes (λ k d l.
+      record { graph = refl; count = refl; way = subst (IsWay task 0 (way_for task 0 (get_or routes k d))) (sym (way_visits task 0 (way_for task 0 (get_or routes k d)) (get_or routes k d) (way_at k d l))) (way_at k d l) })
+
+  each_walk : All (IsPath (model_of task)) (map (taken_for task) routes)
+  each_walk = All-map (IsPath (model_of task)) (taken_for task) routes (λ k d l.
+      let short = get_or-le-sum_by length routes k d l in
+      record { graph = omega arith; count = omega arith;
+        walk = walk_made task (get_or routes k d) fits (plan.each k d l) (route_sparse task routes k d plan l) (omega (arith, short, total_size task routes plan)) })
+
+  same_routes : (rs : List (List ℕ)) → All (λ r. visited task (way_for task 0 r) ≡ r) rs → map (λ (t : Taken). visited task t.arcs) (map (taken_for task) rs) ≡ rs
+  same_routes [] each = refl
+  same_routes (r ∷ rs) each = λ i. each 0 r (omega arith) i ∷ same_routes rs (λ k d l. each (suc k) d (omega (arith, l))) i
+
+  routes_back : routes_in task (plan_for task routes) ≡ routes
+  routes_back = same_routes routes (λ k d l. way_visits task 0 (way_for task 0 (get_or routes k d)) (get_or routes k d) (way_at k d l))
+
+  plan_uses : (f : ℕ → List ℕ → ℕ) → sum_by (λ (t : Taken). t.count * f t.graph t.arcs) (map (taken_for task) routes) ≡ sum_by (λ r. f 0 (way_for task 0 r)) routes
+  plan_uses f = plain_quantity task f (plan_for task routes) each_taken ∙ sum_mapped (λ (t : Taken). f 0 t.arcs) (taken_for task) routes
+
+  few_taken : sum_by (λ (t : Taken). t.count * is_of 0 t.graph t.arcs) (map (taken_for task) routes) ≡ length routes
+  few_taken = plan_uses (is_of 0) ∙ count_items routes
+
+  set_taken : (s : ℕ) → s < customers task → sum_by (λ (t : Taken). t.count * visits_in (model_of task).graphs s t.graph t.arcs) (map (taken_for task) routes) ≤ 1
+  set_taken s l =
+      let most = sum_at_most (λ r. visits_in (model_of task).graphs s 0 (way_for task 0 r)) (λ r. count_by (λ x. x == s + 1) r) routes
+          (λ k d h. let e = way_sets task 0 (way_for task 0 (get_or routes k d)) (get_or routes k d) s (way_at k d h) in omega (arith, e)) in
+      let once = plan.once (s + 1) (omega arith, omega (arith, l)) in
+      omega (arith, plan_uses (visits_in (model_of task).graphs s), most, once)
+
+  pair_taken : (p q : ℕ) → 1 ≤ p → p ≤ customers task → 1 ≤ q → q ≤ customers task → p ≢ q → value_of (model_of task) (plan_for task routes) (variable (customers task) p q) ≤ 1
+  pair_taken p q some l more m differ =
+      let j : ℕ = variable (customers task) p q in
+      let most = sum_at_most (λ r. uses task j (way_for task 0 r)) (λ r. count_by (λ x. x == p) r) routes (λ k d h.
+          let once = route_once task (way_for task 0 (get_or routes k d)) (get_or routes k d) p q some l more m differ (route_sparse task routes k d plan h) (way_at k d h) in
+          let touch = uses_touch task 0 (way_for task 0 (get_or routes k d)) (get_or routes k d) p q some l m differ (way_at k d h) in
+          let t : (0 == p) ≡ false = grind (arith, nat_tests) in
+          let z : cond {A = ℕ} (0 == p) 1 0 ≡ 0 = ap (λ b. cond {A = ℕ} b 1 0) t in
+          omega (arith, once, touch, z)) in
+      omega (arith, plan_uses (uses_in (model_of task).maps j), most, plan.once p (some, l))
+
+  depot_taken : (p : ℕ) → 1 ≤ p → p ≤ customers task → value_of (model_of task) (plan_for task routes) (variable (customers task) p 0) ≤ 2
+  depot_taken p some l =
+      let j : ℕ = variable (customers task) p 0 in
+      let differ : p ≢ 0 = λ e. omega (arith, e, some) in
+      let most = sum_at_most (λ r. uses task j (way_for task 0 r)) (λ r. 2 * count_by (λ x. x == p) r) routes (λ k d h.
+          let touch = uses_touch task 0 (way_for task 0 (get_or routes k d)) (get_or routes k d) p 0 some l (omega arith) differ (way_at k d h) in
+          let t : (0 == p) ≡ false = grind (arith, nat_tests) in
+          let z : cond {A = ℕ} (0 == p) 1 0 ≡ 0 = ap (λ b. cond {A = ℕ} b 1 0) t in
+          omega (arith, touch, z)) in
+      omega (arith, plan_uses (uses_in (model_of task).maps j), most, twice_sum (λ r. count_by (λ x. x == p) r) routes, plan.once p (some, l))
+
+  var_taken : (j : ℕ) → j < length (vars_of task) → InBox (model_of task) (plan_for task routes) j
+  var_taken j l = subst (λ (k : ℕ). InBox (model_of task) (plan_for task routes) k) (sym pair.is) boxed
+    where
+      pair : IsPair (customers task) j
+      pair = pair_of (customers task) (customers task) j (omega arith) (omega (arith, l, pairs_size (customers task) (var_of task)))
+      number : ℕ
+      number = pair_number (customers task) pair.low pair.high
+      var : var_at (vars_of task) number ≡ var_of task pair.low pair.high
+      var = pair_at (customers task) pair.low pair.high (var_of task) _ pair.order pair.within
+      at : variable (customers task) pair.low pair.high ≡ number
+      at = pair_variable (customers task) pair.low pair.high pair.order
+      box : (pos 0 ≤ℤ pos (value_of (model_of task) (plan_for task routes) number)) × (pos (value_of (model_of task) (plan_for task routes) number) ≤ℤ (var_of task pair.low pair.high).high)
+      box = elim (cases_eq pair.low 0) [
+        | inl depot ↦
+            let t : (pair.low == 0) ≡ true = grind (arith, nat_tests) in
+            let high : (var_of task pair.low pair.high).high ≡ pos 2 = ap (λ b. if b then pos 2 else pos 1) t in
+            let swapped : variable (customers task) pair.high 0 ≡ number = variable_swap (customers task) pair.high 0 (λ e. omega (arith, e, pair.order)) ∙ (ap (λ k. variable (customers task) k pair.high) (sym depot) ∙ at) in
+            let most = subst (λ (k : ℕ). value_of (model_of task) (plan_for task routes) k ≤ 2) swapped (depot_taken pair.high (omega (arith, pair.order)) pair.within) in
+            (omega (arith, ints), omega (arith, ints, high, most))
+        | inr customer ↦
+            let t : (pair.low == 0) ≡ false = grind (arith, nat_tests) in
+            let high : (var_of task pair.low pair.high).high ≡ pos 1 = ap (λ b. if b then pos 2 else pos 1) t in
+            let most = subst (λ (k : ℕ). value_of (model_of task) (plan_for task routes) k ≤ 1) at
+                (pair_taken pair.low pair.high (omega (arith, customer)) (omega (arith, pair.order, pair.within)) (omega (arith, pair.order)) pair.within (λ e. omega (arith, e, pair.order))) in
+            (omega (arith, ints), omega (arith, ints, high, most))
+      ]
+      boxed : InBox (model_of task) (plan_for task routes) number
+      boxed = subst (λ (x : Var). (x.low ≤ℤ pos (value_of (model_of task) (plan_for task routes) number)) × (pos (value_of (model_of task) (plan_for task routes) number) ≤ℤ x.high)) (sym var) box
+
+  row_taken : (i : ℕ) → i < customers task → RowHolds (model_of task) (plan_for task routes) i
+  row_taken i l =
+      let v : ℕ = i + 1 in
+      let value = row_value task (plan_for task routes) v each_taken (omega arith) (omega (arith, l)) in
+      let sums = ap (sum_by (count_by (λ x. x == v))) routes_back in
+      let mapped = sum_mapped (count_by (λ x. x == v)) (λ (t : Taken). visited task t.arcs) (map (taken_for task) routes) in
+      let once = plan.once v (omega arith, omega (arith, l)) in
+      let back : v - 1 ≡ i = omega arith in
+      subst (λ (k : ℕ). RowHolds (model_of task) (plan_for task routes) k) back
+      (subst (λ (row : Row). IsBetween row.low row.high (row_sum (model_of task) (plan_for task routes) row.terms)) (sym (row_at_is task v (omega arith) (omega (arith, l))))
+      (omega (arith, ints, value, sums, mapped, once), omega (arith, ints, value, sums, mapped, once)))
+
+  counts_taken : (g : ℕ) → g < 1 → ((graph_in (model_of task).graphs g).ends.low ≤ paths_of (plan_for task routes) g) × (paths_of (plan_for task routes) g ≤ (graph_in (model_of task).graphs g).ends.high)
+  counts_taken zero h = (omega arith, omega (arith, few_taken, few_routes task routes plan, plan.few))
+  counts_taken (suc g) h = absurd (omega (arith, h))
+
+  made_solution : IsSolution (model_of task) (plan_for task routes)
+  made_solution = record {
+    paths = λ k l. each_walk k _ l;
+    counts = counts_taken;
+    sets = set_taken;
+    vars = var_taken;
+    rows = λ i l. row_taken i (omega (arith, l, rows_size (customers task)));
+  }
+
+pub routes_solve : RoutesHaveSolutionsLaw
+routes_solve task fits routes plan = record {
+  plan = plan_for task routes;
+  solution = made_solution task fits routes plan;
+  equal_cost = plan_price task (plan_for task routes) (each_taken task fits routes plan) ∙ ap (route_cost task) (routes_back task fits routes plan);
+}
