@@ -1,7 +1,7 @@
 -- Lemmas on the arcs of the model of a task.
-use Rattle.std.proofs.Common.{◌≡◌, ◌≢◌, ℕ, zero, suc, ◌+◌, ◌-◌, ◌*◌, ◌<◌, ◌≤◌, List, [], ◌∷◌, length, map, filter, Bool, true, false, not, ◌&&◌, All, refl, sym, ◌∙◌, ap, subst, arith, inl, inr, ◌==◌, sum_by, get_or}
-use Rattle.std.specs.List.{range_with_len, flat_map, Contains}
-use Rattle.std.proofs.lemmas.Bool.{cases_eq, cases_lt}
+use Rattle.std.proofs.Common.{◌≡◌, ◌≢◌, ℕ, ◌+◌, ◌-◌, ◌*◌, ◌<◌, ◌≤◌, length, filter, Bool, true, false, not, All, refl, ◌∙◌, ap, arith, inl, inr}
+use Rattle.std.specs.List.{range_with_len, Contains}
+use Rattle.std.proofs.lemmas.Bool.{cases_eq}
 use Rattle.std.proofs.lemmas.Bool.Decides.{nat_tests}
 use Rattle.std.proofs.lemmas.List.Elements.{All-map}
 use Rattle.std.proofs.lemmas.List.{length-map}
@@ -12,8 +12,7 @@ use Rattle.path_graph.specs.declared.parts.GraphArc.{GraphArc}
 use Rattle.path_graph.specs.Parts.{arc_at}
 use Rattle.path_graph.proofs.FreeLemmas.{filter_contains}
 use Rattle.route_tasks.specs.declared.task.RouteTask.{RouteTask}
-use Rattle.route_tasks.specs.Fit.{TaskFits}
-use Rattle.route_tasks.specs.Places.{customers, or_depot}
+use Rattle.route_tasks.specs.Places.{customers}
 use Rattle.route_tasks.specs.ModelOf.{needs_of, arc_of, is_head, heads_of, arcs_at, arcs_of}
 use Rattle.route_tasks.proofs.ListLemmas.{all_joined, all_range, all_kept, sum_small}
 

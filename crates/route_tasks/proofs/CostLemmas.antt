@@ -1,32 +1,24 @@
 -- What arcs of the model of a task cost, and which of them touch a customer.
-use Rattle.std.proofs.Common.{◌≡◌, ◌≢◌, ℕ, zero, suc, ◌+◌, ◌-◌, ◌*◌, ◌<◌, ◌≤◌, min, max, ℤ, pos, ◌+ℤ◌, ◌-ℤ◌, ◌*ℤ◌, ◌≤ℤ◌, unsigned_abs, List, [], ◌∷◌, length, map, get_or, Bool, true, false, All, refl, sym, ◌∙◌, ap, subst, arith, nat_lt, inl, inr, ◌==◌, sum_by, ◌||◌}
-use Rattle.std.specs.Prelude.{if◌then◌else◌, count_by, slice_index_or, ◌⊎◌}
-use Rattle.std.specs.List.{list_any}
+use Rattle.std.proofs.Common.{◌≡◌, ◌≢◌, ℕ, ◌+◌, ◌<◌, ◌≤◌, min, max, ℤ, pos, ◌-ℤ◌, unsigned_abs, List, [], ◌∷◌, length, get_or, true, false, sym, ◌∙◌, ap, subst, arith, nat_lt, inl, inr}
+use Rattle.std.specs.Prelude.{if◌then◌else◌, ◌⊎◌}
 use Rattle.std.proofs.lemmas.Int.{ints}
-use Rattle.std.proofs.lemmas.Bool.{cases_eq, cases_lt}
+use Rattle.std.proofs.lemmas.Bool.{cases_lt}
 use Rattle.std.proofs.lemmas.Bool.Decides.{nat_tests}
-use Rattle.std.proofs.lemmas.List.{get_or-map}
-use Rattle.std.proofs.lemmas.List.Sums.{sum_by-cons}
-use lib.IntN.{*ℤ-zero}
-use Rattle.path_graph.specs.declared.parts.GraphArc.{GraphArc}
-use Rattle.path_graph.specs.Sums.{sum_below, sum_over}
+use Rattle.path_graph.specs.Sums.{sum_over}
 use Rattle.path_graph.specs.Walk.{arc_at}
-use Rattle.path_graph.proofs.SumLemmas.{sum_below-same, sum_below-add, sum_below-pick, sum_below-zero}
-use Rattle.path_graph.proofs.IntLemmas.{mul_z-add, times_choice}
 use Rattle.route_model.specs.declared.parts.Var.{Var}
-use Rattle.route_model.specs.Parts.{ModelParts, mapped_vars, var_at}
-use Rattle.route_model.specs.Quantities.{is_mapped}
+use Rattle.route_model.specs.Parts.{var_at}
 use Rattle.route_tasks.specs.declared.task.Stop.{Stop}
 use Rattle.route_tasks.specs.declared.task.Style.{Style}
 use Rattle.route_tasks.specs.declared.task.RouteTask.{RouteTask}
-use Rattle.route_tasks.specs.Distance.{squared_gap, squared, root_of, distance_of}
-use Rattle.route_tasks.specs.Places.{customers, place_at, distance_at, over_pairs, pair_number, variable, or_depot, other}
-use Rattle.route_tasks.specs.ModelOf.{arcs_of, mapped_of, var_of, vars_of, model_of}
+use Rattle.route_tasks.specs.Distance.{squared_gap, root_of, distance_of}
+use Rattle.route_tasks.specs.Places.{customers, place_at, distance_at, over_pairs, pair_number, variable, or_depot}
+use Rattle.route_tasks.specs.ModelOf.{arcs_of, var_of, vars_of}
 use Rattle.route_tasks.specs.Routes.{way_of}
 use Rattle.route_tasks.proofs.PairLemmas.{pair_at, pairs_size, variable_below}
-use Rattle.route_tasks.proofs.ArcLemmas.{IsArc, arc_is}
+use Rattle.route_tasks.proofs.ArcLemmas.{arc_is}
 use Rattle.route_tasks.proofs.ModelLemmas.{head_place}
-use Rattle.route_tasks.proofs.WayLemmas.{IsStep, IsWay, sink_place}
+use Rattle.route_tasks.proofs.WayLemmas.{IsStep, IsWay}
 
 -- distances are the same both ways
 abs_swap : (x y : ℤ) → unsigned_abs (x -ℤ y) ≡ unsigned_abs (y -ℤ x)

@@ -1,11 +1,11 @@
 -- Lemmas on distances.
-use Rattle.std.proofs.Common.{◌≡◌, ℕ, zero, suc, ◌+◌, ◌-◌, ◌*◌, ◌<◌, ◌≤◌, Bool, true, false, inl, inr, refl, sym, ◌∙◌, ap, subst, arith, mul-le-mul, nat_le}
-use Rattle.std.specs.Prelude.{if◌then◌else◌, ◌⊎◌}
+use Rattle.std.proofs.Common.{◌≡◌, ℕ, zero, suc, ◌+◌, ◌-◌, ◌*◌, ◌≤◌, Bool, true, false, inl, inr, refl, sym, subst, arith, mul-le-mul, nat_le}
+use Rattle.std.specs.Prelude.{if◌then◌else◌}
 use Rattle.std.proofs.lemmas.Bool.{cases_eq, cases_lt}
 use Rattle.std.proofs.lemmas.Bool.Decides.{nat_tests}
 use Rattle.route_tasks.specs.declared.task.Style.{Style}
 use Rattle.route_tasks.specs.declared.task.Style.TheVariants.{Euclid, Tenths}
-use Rattle.route_tasks.specs.Distance.{IsGreatest, IsEuclid, IsTenths, IsDistance, AtMostNearest, AtMostTenths, greatest_up_to, root_of}
+use Rattle.route_tasks.specs.Distance.{IsDistance, AtMostNearest, AtMostTenths, greatest_up_to, root_of}
 
 -- the greatest number that passes a test is found, where it is not past the end
 pub found : (n : ℕ) (test : ℕ → Bool) (d : ℕ) → d ≤ n → (1 ≤ d → test d ≡ true) → ((e : ℕ) → test e ≡ true → e ≤ d) → greatest_up_to n test ≡ d

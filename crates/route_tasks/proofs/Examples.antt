@@ -1,7 +1,6 @@
 -- Worked facts about the definitions: two customers in each style, with numbers from a computation apart from this repository.
-use Rattle.std.proofs.Common.{◌≡◌, ℕ, ℤ, pos, List, [], ◌∷◌, map, refl, Some, None, ◌-◌, ◌*◌, inl, inr, arith}
+use Rattle.std.proofs.Common.{◌≡◌, ℕ, ℤ, pos, [], ◌∷◌, map, refl, Some, None, ◌-◌, ◌*◌, inl, inr, arith, negsuc}
 use Rattle.std.proofs.lemmas.Bool.{cases_lt}
-use Rattle.path_graph.specs.declared.parts.Ends.{Ends}
 use Rattle.path_graph.specs.declared.parts.GraphArc.{GraphArc}
 use Rattle.path_graph.specs.Fit.{int_at}
 use Rattle.route_model.specs.declared.parts.Var.{Var}
@@ -10,10 +9,10 @@ use Rattle.route_model.specs.declared.parts.RowTerm.{RowTerm}
 use Rattle.route_tasks.specs.declared.task.Stop.{Stop}
 use Rattle.route_tasks.specs.declared.task.Style.TheVariants.{Euclid, Tenths}
 use Rattle.route_tasks.specs.declared.task.RouteTask.{RouteTask}
-use Rattle.route_tasks.specs.Distance.{distance_of, IsDistance, root_of, greatest_up_to, squared}
+use Rattle.route_tasks.specs.Distance.{distance_of, root_of, greatest_up_to}
 use Rattle.route_tasks.specs.Places.{place_at}
-use Rattle.route_tasks.specs.ModelOf.{is_load_main, windows_of, window, set_of, arcs_of, mapped_of, vars_of, rows_of, ends_of, row_of, needs_of}
-use Rattle.route_tasks.specs.Routes.{route_cost, KeepsTimes, IsOnTime, load_of, numbers_of, visited}
+use Rattle.route_tasks.specs.ModelOf.{windows_of, window, set_of, arcs_of, mapped_of, vars_of, rows_of, ends_of, needs_of}
+use Rattle.route_tasks.specs.Routes.{route_cost, time_after, load_of, numbers_of, visited}
 use Rattle.route_tasks.proofs.DistanceLemmas.{root_is, square_rises}
 
 -- squares, one below and one above, by the squared distance
@@ -129,3 +128,16 @@ timed_ends = refl
 timed_route : route_cost timed ((1 ∷ 2 ∷ []) ∷ []) ≡ pos 100
 unfolding root_of greatest_up_to
 timed_route = refl
+
+-- the depot opens at 10: the first customer is reached at 80, the second at 104, and the depot at 140
+timed_times : (time_after timed 0 (pos 10) 1 ∷ time_after timed 1 (pos 80) 2 ∷ time_after timed 2 (pos 104) 0 ∷ []) ≡ pos 80 ∷ pos 104 ∷ pos 140 ∷ []
+unfolding root_of greatest_up_to
+timed_times = refl
+
+-- a stop that is reached before it opens begins as it opens
+timed_early : time_after timed 0 (negsuc 79) 1 ≡ pos 20
+unfolding root_of greatest_up_to
+timed_early = refl
+
+timed_load : load_of timed (1 ∷ 2 ∷ []) ≡ pos 3
+timed_load = refl

@@ -1,34 +1,30 @@
 -- The parts of the model of a task fit.
-use Rattle.std.proofs.Common.{◌≡◌, ◌≢◌, ℕ, zero, suc, ◌+◌, ◌-◌, ◌*◌, ◌<◌, ◌≤◌, min, ℤ, pos, ◌+ℤ◌, ◌-ℤ◌, ◌*ℤ◌, ◌≤ℤ◌, neg_ℤ, unsigned_abs, List, [], ◌∷◌, length, map, get_or, Bool, true, false, not, ◌&&◌, All, refl, sym, ◌∙◌, ap, subst, arith, inl, inr, nat_lt, sum_by, mul-le-mul, Some, None, IfSome}
+use Rattle.std.proofs.Common.{◌≡◌, ◌≢◌, ℕ, zero, suc, ◌+◌, ◌-◌, ◌*◌, ◌<◌, ◌≤◌, ℤ, pos, ◌-ℤ◌, ◌*ℤ◌, ◌≤ℤ◌, unsigned_abs, List, [], ◌∷◌, length, get_or, Bool, true, false, not, ◌&&◌, refl, sym, ◌∙◌, ap, subst, arith, inl, inr, nat_lt, mul-le-mul, Some, None, IfSome}
 use Rattle.std.specs.Prelude.{if◌then◌else◌, int_lt, slice_index_or, ◌⊎◌}
-use Rattle.std.specs.List.{range_with_len, flat_map, AllPass}
+use Rattle.std.specs.List.{range_with_len}
 use Rattle.std.specs.Ordering.{int_eq}
 use Rattle.std.proofs.lemmas.Int.{ints}
-use Rattle.std.proofs.lemmas.Bool.{cases_eq, cases_lt}
+use Rattle.std.proofs.lemmas.Bool.{cases_lt}
 use Rattle.std.proofs.lemmas.Bool.Decides.{nat_tests, Decides-int_eq}
 use Rattle.std.specs.Bool.{Decides}
-use Rattle.std.proofs.lemmas.List.{get_or_past, length-map}
-use Rattle.std.proofs.lemmas.List.Elements.{All-map, All-cons}
-use Rattle.std.proofs.lemmas.List.Sums.{AllPass-from_list_all, sum_by-cons}
-use Rattle.std.proofs.lemmas.List.FromFn.{length-map-range_with_len, get_or-map-range_with_len, length-range_with_len}
+use Rattle.std.proofs.lemmas.List.{get_or_past}
+use Rattle.std.proofs.lemmas.List.Elements.{All-map}
+use Rattle.std.proofs.lemmas.List.Sums.{AllPass-from_list_all}
+use Rattle.std.proofs.lemmas.List.FromFn.{length-map-range_with_len, get_or-map-range_with_len}
 use Rattle.path_graph.specs.declared.parts.Window.{Window}
 use Rattle.path_graph.specs.declared.parts.Vertex.{Vertex}
 use Rattle.path_graph.specs.declared.parts.GraphArc.{GraphArc}
-use Rattle.path_graph.specs.declared.parts.Ends.{Ends}
-use Rattle.path_graph.specs.Fit.{PartsFit, EndsFit, VertexFits, ArcFits, WindowFits, NeedFits, is_used_at, int_at, window_at, vertex_at}
-use Rattle.path_graph.specs.Free.{is_free, IsFreePath, IsFreeCycle, HasNoFreeCycle}
+use Rattle.path_graph.specs.Fit.{PartsFit, EndsFit, VertexFits, ArcFits, WindowFits, NeedFits, is_used_at, int_at, vertex_at}
+use Rattle.path_graph.specs.Free.{is_free, IsFreePath, HasNoFreeCycle}
 use Rattle.path_graph.specs.Parts.{arc_at}
-use Rattle.path_graph.specs.Graph.{IsGraph}
 use Rattle.path_graph.specs.Within.{IsWithin}
 use Rattle.path_graph.proofs.SumLemmas.{within_abs}
 use Rattle.route_tasks.specs.declared.task.Stop.{Stop}
-use Rattle.route_tasks.specs.declared.task.Style.{Style}
-use Rattle.route_tasks.specs.declared.task.Style.TheVariants.{Euclid, Tenths}
 use Rattle.route_tasks.specs.declared.task.RouteTask.{RouteTask}
-use Rattle.route_tasks.specs.Distance.{IsPlaced, squared, root_of, distance_of}
+use Rattle.route_tasks.specs.Distance.{IsPlaced, squared}
 use Rattle.route_tasks.specs.Fit.{StopFits, TaskFits}
 use Rattle.route_tasks.specs.Places.{customers, place_at, distance_at}
-use Rattle.route_tasks.specs.ModelOf.{is_timed, is_load_main, laid, window, windows_of, set_of, vertex_of, time_need, stop_need, needs_of, arcs_of, ends_of, vertices_of, graph_of}
+use Rattle.route_tasks.specs.ModelOf.{is_timed, is_load_main, laid, window, set_of, vertex_of, time_need, stop_need, arcs_of, ends_of, vertices_of}
 use Rattle.route_tasks.proofs.DistanceLemmas.{root_small}
 use Rattle.route_tasks.proofs.ListLemmas.{all_range}
 use Rattle.route_tasks.proofs.ArcLemmas.{IsArc, each_arc, arc_is, few_arcs}

@@ -1,11 +1,9 @@
 -- Lemmas on the parts of the graph of a task.
-use Rattle.std.proofs.Common.{◌≡◌, ℕ, ℤ, pos, List, ◌∙◌, sym}
-use Rattle.path_graph.specs.declared.parts.Window.{Window}
+use Rattle.std.proofs.Common.{◌≡◌, List, ◌∙◌}
 use Rattle.route_tasks.specs.declared.graphs.Shape.{Shape}
 use Rattle.route_tasks.specs.declared.task.RouteTask.{RouteTask}
-use Rattle.route_tasks.specs.Places.{customers, place_at}
 use Rattle.route_tasks.specs.Shape.{shape_of}
-use Rattle.route_tasks.specs.ModelOf.{laid, window, windows_of, needs_of, time_need, stop_need}
+use Rattle.route_tasks.specs.ModelOf.{laid}
 
 -- what is laid out by the shape of the task
 pub laid_is : {X : Type 0} (task : RouteTask) (shape : Shape) (time stops load none time2 stops2 load2 : X) (r : List X) → shape ≡ shape_of task → r ≡ laid shape.timed shape.load_is_main time stops load none

@@ -1,34 +1,30 @@
 -- The walks that are made of routes.
-use Rattle.std.proofs.Common.{◌≡◌, ◌≢◌, ℕ, zero, suc, ◌+◌, ◌-◌, ◌*◌, ◌<◌, ◌≤◌, ℤ, pos, ◌+ℤ◌, ◌*ℤ◌, ◌≤ℤ◌, List, [], ◌∷◌, ◌++◌, length, map, filter, get_or, Bool, true, false, not, ◌&&◌, cond, All, refl, sym, ◌∙◌, ap, subst, arith, nat_lt, inl, inr, ◌==◌}
-use Rattle.std.specs.Prelude.{if◌then◌else◌, count_by, ◌⊎◌}
+use Rattle.std.proofs.Common.{◌≡◌, ◌≢◌, ℕ, zero, suc, ◌+◌, ◌-◌, ◌<◌, ◌≤◌, ℤ, pos, ◌+ℤ◌, ◌*ℤ◌, ◌≤ℤ◌, List, [], ◌∷◌, length, map, get_or, Bool, true, false, not, ◌&&◌, cond, All, refl, sym, ◌∙◌, ap, subst, arith, nat_lt, inl, inr, ◌==◌}
+use Rattle.std.specs.Prelude.{if◌then◌else◌, count_by}
 use Rattle.std.specs.Int.{int_max}
 use Rattle.std.specs.List.{range_with_len, flat_map, Contains, position_or_len}
 use Rattle.std.proofs.lemmas.Int.{ints, clamps}
-use Rattle.std.proofs.lemmas.Bool.{cases_eq, cases_lt}
+use Rattle.std.proofs.lemmas.Bool.{cases_lt}
 use Rattle.std.proofs.lemmas.Bool.Decides.{nat_tests}
-use Rattle.std.proofs.lemmas.List.{get_or-map, get_or_default, length-map}
+use Rattle.std.proofs.lemmas.List.{get_or-map, length-map}
 use Rattle.std.proofs.lemmas.List.Elements.{Contains-append_left, Contains-append_right}
 use Rattle.std.proofs.lemmas.List.Sums.{sum_by-cons, fails_before_first, passes_at_first}
 use Rattle.std.proofs.lemmas.List.FromFn.{length-range_with_len, get_or-range_with_len}
 use Rattle.path_graph.specs.declared.parts.GraphArc.{GraphArc}
 use Rattle.path_graph.specs.declared.parts.Values.{Values}
 use Rattle.path_graph.specs.declared.parts.Window.{Window}
-use Rattle.path_graph.specs.Fit.{int_at, window_at, vertex_at}
-use Rattle.path_graph.specs.Sums.{sum_over}
-use Rattle.path_graph.specs.Walk.{Leads, Passes, IsFeasibleWalk, arc_at, over_of, root_of, moved, moved_at, AreBelow, Takes}
+use Rattle.path_graph.specs.Fit.{vertex_at}
+use Rattle.path_graph.specs.Walk.{Leads, Passes, arc_at, over_of, moved, AreBelow, Takes}
 use Rattle.path_graph.proofs.FreeLemmas.{filter_contains}
 use Rattle.path_graph.proofs.WalkLemmas.{at_each}
 use Rattle.route_tasks.specs.declared.task.Stop.{Stop}
-use Rattle.route_tasks.specs.declared.task.Style.{Style}
-use Rattle.route_tasks.specs.declared.task.Style.TheVariants.{Euclid, Tenths}
 use Rattle.route_tasks.specs.declared.task.RouteTask.{RouteTask}
 use Rattle.route_tasks.specs.Fit.{TaskFits}
 use Rattle.route_tasks.specs.Places.{customers, place_at}
-use Rattle.route_tasks.specs.ModelOf.{is_timed, is_load_main, laid, window, windows_of, needs_of, time_need, stop_need, arc_of, is_head, heads_of, arcs_at, arcs_of, graph_of, vertices_of}
-use Rattle.route_tasks.specs.Routes.{IsCustomer, IsRoute, IsOnTime, KeepsTimes, time_after, load_of, visited}
-use Rattle.route_tasks.proofs.ListLemmas.{all_none}
-use Rattle.route_tasks.proofs.FitLemmas.{place_fits, vertex_is}
-use Rattle.route_tasks.proofs.WayLemmas.{IsStep, IsWay, step_needs, step_windows, sink_place, source_windows, is_reached}
+use Rattle.route_tasks.specs.ModelOf.{is_timed, is_load_main, laid, window, time_need, stop_need, arc_of, is_head, heads_of, arcs_at, arcs_of, graph_of, vertices_of}
+use Rattle.route_tasks.specs.Routes.{IsCustomer, KeepsTimes, time_after, load_of, visited}
+use Rattle.route_tasks.proofs.FitLemmas.{place_fits}
+use Rattle.route_tasks.proofs.WayLemmas.{IsStep, IsWay, step_needs, step_windows, sink_place, is_reached}
 
 -- an arc of each tail and head stands among the arcs
 mapped_contains : {X Y : Type 0} (f : X → Y) (xs : List X) (x : X) → Contains xs x → Contains (map f xs) (f x)
@@ -61,6 +57,7 @@ both_are a b u v e = (first a b u v e, second a b u v e)
   where
     first : (x y p q : ℕ) → ((x == p) && (y == q)) ≡ true → x ≡ p
     first x y p q h = grind (arith, nat_tests)
+
     second : (x y p q : ℕ) → ((x == p) && (y == q)) ≡ true → y ≡ q
     second x y p q h = grind (arith, nat_tests)
 
@@ -73,8 +70,10 @@ step_made task u v p q r passes = record { there = there; tail = are.0; head = a
   where
     has : Contains (arcs_of task) (arc_of task u v)
     has = arc_there task u v p q r passes
+
     number : ℕ
     number = position_or_len (joins u v) (arcs_of task)
+
     there : number < length (arcs_of task)
     there = elim (cases_lt number (length (arcs_of task))) [
       | inl less ↦ less
@@ -86,6 +85,7 @@ step_made task u v p q r passes = record { there = there; tail = are.0; head = a
       where
         apart : true ≡ false → ⊥
         apart e = cc
+
     are : ((arc_at (arcs_of task) number).tail ≡ u) × ((arc_at (arcs_of task) number).head ≡ v)
     are = both_are (arc_at (arcs_of task) number).tail (arc_at (arcs_of task) number).head u v (passes_at_first (joins u v) (arcs_of task) _ there)
 
@@ -131,17 +131,21 @@ way_from : (task : RouteTask) (u : ℕ) (route : List ℕ) → 1 ≤ u → u ≤
 unfolding way_for
 way_from task u [] some l are sparse = (step_made task u (customers task + 1) l (omega arith) (omega arith) (last_head (customers task) u some l), refl)
 way_from task u (v ∷ more) some l are sparse =
-    let is : IsCustomer task v = are 0 v (omega arith) in
-    (step_made task u v l is.0 (omega (arith, is.1)) (inner_head (customers task) u v is.1 (not_next u v more sparse)), is.1,
-    way_from task v more is.0 is.1 (λ k d h. are (suc k) d (omega (arith, h))) (rest_sparse u (v ∷ more) sparse))
+    let is : IsCustomer task v = are 0 v (omega arith) in (
+      step_made task u v l is.0 (omega (arith, is.1)) (inner_head (customers task) u v is.1 (not_next u v more sparse)),
+      is.1,
+      way_from task v more is.0 is.1 (λ k d h. are (suc k) d (omega (arith, h))) (rest_sparse u (v ∷ more) sparse),
+    )
 
 pub way_made : (task : RouteTask) (route : List ℕ) → 1 ≤ length route → All (IsCustomer task) route → IsSparse route → IsWay task 0 (way_for task 0 route) route
 unfolding way_for
 way_made task [] some are sparse = absurd (omega (arith, some))
 way_made task (v ∷ more) some are sparse =
-    let is : IsCustomer task v = are 0 v (omega arith) in
-    (step_made task 0 v (omega arith) is.0 (omega (arith, is.1)) (inner_head (customers task) 0 v is.1 (λ e. omega (arith, e, is.0))), is.1,
-    way_from task v more is.0 is.1 (λ k d h. are (suc k) d (omega (arith, h))) sparse)
+    let is : IsCustomer task v = are 0 v (omega arith) in (
+      step_made task 0 v (omega arith) is.0 (omega (arith, is.1)) (inner_head (customers task) 0 v is.1 (λ e. omega (arith, e, is.0))),
+      is.1,
+      way_from task v more is.0 is.1 (λ k d h. are (suc k) d (omega (arith, h))) sparse,
+    )
 
 pub way_leads : (task : RouteTask) (u : ℕ) (arcs route : List ℕ) → IsWay task u arcs route → Leads (graph_of task) u arcs (customers task + 1)
 way_leads task u [] route way = absurd way
@@ -184,14 +188,14 @@ over_made : (task : RouteTask) (u a v : ℕ) (value : Values) (time stops load :
 over_made task u a v value time stops load e s l =
     (λ i. moved (e i) (step_needs task u a v s i) (step_windows task u a v s l i))
     ∙ moved_laid (is_timed task.style) (is_load_main task) time stops load (time_need task u v) (stop_need (customers task) v) (place_at task v).demand
-        (window (pos 10 *ℤ (place_at task v).ready) (pos 10 *ℤ (place_at task v).due)) (window (pos 0) (pos (customers task))) (window (pos 0) task.capacity)
+    (window (pos 10 *ℤ (place_at task v).ready) (pos 10 *ℤ (place_at task v).due)) (window (pos 0) (pos (customers task))) (window (pos 0) task.capacity)
 
 takes_made : (task : RouteTask) (u a v : ℕ) (value : Values) (time stops load : ℤ) → value.at ≡ laid (is_timed task.style) (is_load_main task) time stops load (pos 0) → IsStep task u a v → v ≤ customers task + 1
     → (is_timed task.style ≡ true → time_after task u time v ≤ℤ (pos 10 *ℤ (place_at task v).due)) → int_max (pos 0) (stops +ℤ stop_need (customers task) v) ≤ℤ pos (customers task) → int_max (pos 0) (load +ℤ (place_at task v).demand) ≤ℤ task.capacity
     → Takes (graph_of task) value a
 takes_made task u a v value time stops load e s l p q r =
     let fits = below_laid (is_timed task.style) (is_load_main task) (time_after task u time v) (int_max (pos 0) (stops +ℤ stop_need (customers task) v)) (int_max (pos 0) (load +ℤ (place_at task v).demand))
-        (window (pos 10 *ℤ (place_at task v).ready) (pos 10 *ℤ (place_at task v).due)) (window (pos 0) (pos (customers task))) (window (pos 0) task.capacity) p q r in
+    (window (pos 10 *ℤ (place_at task v).ready) (pos 10 *ℤ (place_at task v).due)) (window (pos 0) (pos (customers task))) (window (pos 0) task.capacity) p q r in
     subst (λ (xs : List ℤ). AreBelow xs (vertex_at (vertices_of task) (arc_at (arcs_of task) a).head).windows) (sym (over_made task u a v value time stops load e s l))
     (subst (λ (ws : List Window). AreBelow (laid (is_timed task.style) (is_load_main task) (time_after task u time v) (int_max (pos 0) (stops +ℤ stop_need (customers task) v)) (int_max (pos 0) (load +ℤ (place_at task v).demand)) (pos 0)) ws) (sym (step_windows task u a v s l)) fits)
 
@@ -211,16 +215,18 @@ way_passes task u [] route value time stops load fits way e keeps low few light 
 way_passes task u (a ∷ rest) [] value time stops load fits way e keeps low few light most =
     let none = ap (λ (s : Stop). s.demand) (sink_place task) ∙ fits.depot_empty in
     let takes = takes_made task u a (customers task + 1) value time stops load e way.0 (omega arith)
-        (λ t. subst (is_reached task u time) (sym (sink_place task)) (keeps t))
-        (omega (arith, ints, clamps, stop_past (customers task), low, few))
-        (omega (arith, ints, clamps, none, light, most)) in
+    (λ t. subst (is_reached task u time) (sym (sink_place task)) (keeps t))
+    (omega (arith, ints, clamps, stop_past (customers task), low, few))
+    (omega (arith, ints, clamps, none, light, most)) in
     (takes, subst (λ (xs : List ℕ). Passes (graph_of task) (over_of (graph_of task) value a) xs) (sym way.1) tt)
 way_passes task u (a ∷ rest) (v ∷ more) value time stops load fits way e keeps low few light most =
     let within : v ≤ customers task + 1 = omega (arith, way.1) in
     let demand = (place_fits task v fits).demanded.0 in
     let heavy = load_low task more fits in
     let one = stop_there (customers task) v way.1 in
-    let takes = takes_made task u a v value time stops load e way.0 within (λ t. (keeps t).0) (omega (arith, ints, clamps, one, low, few)) (omega (arith, ints, clamps, demand, heavy, light, most)) in
-    (takes, way_passes task v rest more (over_of (graph_of task) value a) (time_after task u time v) (int_max (pos 0) (stops +ℤ stop_need (customers task) v)) (int_max (pos 0) (load +ℤ (place_at task v).demand)) fits way.2
-    (over_made task u a v value time stops load e way.0 within) (λ t. (keeps t).1)
-    (omega (arith, ints, clamps)) (omega (arith, ints, clamps, one, low, few)) (omega (arith, ints, clamps)) (omega (arith, ints, clamps, demand, light, most)))
+    let takes = takes_made task u a v value time stops load e way.0 within (λ t. (keeps t).0) (omega (arith, ints, clamps, one, low, few)) (omega (arith, ints, clamps, demand, heavy, light, most)) in (
+      takes,
+      way_passes task v rest more (over_of (graph_of task) value a) (time_after task u time v) (int_max (pos 0) (stops +ℤ stop_need (customers task) v)) (int_max (pos 0) (load +ℤ (place_at task v).demand)) fits way.2
+          (over_made task u a v value time stops load e way.0 within) (λ t. (keeps t).1)
+          (omega (arith, ints, clamps)) (omega (arith, ints, clamps, one, low, few)) (omega (arith, ints, clamps)) (omega (arith, ints, clamps, demand, light, most)),
+    )

@@ -1,27 +1,25 @@
 -- The model of a task keeps the limits of models.
-use Rattle.std.proofs.Common.{◌≡◌, ◌≢◌, ℕ, zero, suc, ◌+◌, ◌-◌, ◌*◌, ◌<◌, ◌≤◌, min, ℤ, pos, ◌+ℤ◌, ◌*ℤ◌, ◌≤ℤ◌, neg_ℤ, unsigned_abs, List, [], ◌∷◌, length, map, get_or, Bool, true, false, All, refl, sym, ◌∙◌, ap, subst, arith, inl, inr, nat_lt, sum_by, mul-le-mul, Some, None, IfSome, ◌==◌}
-use Rattle.std.specs.Prelude.{if◌then◌else◌, slice_index_or}
-use Rattle.std.specs.List.{range_with_len, flat_map, AllAdjacentBelow}
+use Rattle.std.proofs.Common.{◌≡◌, ◌≢◌, ℕ, zero, suc, ◌+◌, ◌-◌, ◌*◌, ◌<◌, ◌≤◌, pos, ◌≤ℤ◌, unsigned_abs, List, [], ◌∷◌, length, map, get_or, Bool, true, false, All, refl, sym, ◌∙◌, ap, arith, inl, inr, nat_lt, sum_by, mul-le-mul, ◌==◌}
+use Rattle.std.specs.Prelude.{if◌then◌else◌}
+use Rattle.std.specs.List.{range_with_len}
 use Rattle.std.proofs.lemmas.Int.{ints}
-use Rattle.std.proofs.lemmas.Bool.{cases_eq, cases_lt}
+use Rattle.std.proofs.lemmas.Bool.{cases_lt}
 use Rattle.std.proofs.lemmas.Bool.Decides.{nat_tests}
 use Rattle.std.proofs.lemmas.List.{length-map}
 use Rattle.std.proofs.lemmas.List.Elements.{All-map, All-cons}
 use Rattle.std.proofs.lemmas.List.Sums.{sum_by-cons}
-use Rattle.std.proofs.lemmas.List.FromFn.{length-map-range_with_len, get_or-map-range_with_len, length-range_with_len}
-use Rattle.path_graph.specs.declared.parts.Vertex.{Vertex}
+use Rattle.std.proofs.lemmas.List.FromFn.{length-map-range_with_len, get_or-map-range_with_len}
 use Rattle.path_graph.specs.declared.parts.GraphArc.{GraphArc}
 use Rattle.path_graph.specs.Walk.{GraphParts}
-use Rattle.path_graph.specs.Within.{IsWithin}
 use Rattle.route_model.specs.declared.parts.Var.{Var}
 use Rattle.route_model.specs.declared.parts.RowTerm.{RowTerm}
 use Rattle.route_model.specs.declared.parts.Row.{Row}
-use Rattle.route_model.specs.Parts.{ModelParts, graph_in, maps_in}
-use Rattle.route_model.specs.Fit.{ModelFits, VarsFit, VarFits, RowsFit, RowFits, TermFits, SidesFit, Ascends, row_coef, total_coef, MapFits, GraphMapsFit, MapsFit, GraphsFit, GraphFits, IsDeclared, cost_range_of, cost_range}
+use Rattle.route_model.specs.Parts.{graph_in, maps_in}
+use Rattle.route_model.specs.Fit.{ModelFits, VarsFit, VarFits, RowsFit, RowFits, TermFits, row_coef, MapFits, GraphMapsFit, GraphsFit, GraphFits, IsDeclared, cost_range_of, cost_range}
 use Rattle.route_tasks.specs.declared.task.RouteTask.{RouteTask}
 use Rattle.route_tasks.specs.Fit.{TaskFits}
-use Rattle.route_tasks.specs.Places.{customers, distance_at, over_pairs, pairs_before, pair_number, variable, or_depot, other}
-use Rattle.route_tasks.specs.ModelOf.{set_of, vertex_of, arcs_of, graph_of, mapped_of, var_of, vars_of, term_of, terms_of, row_of, rows_of, model_of}
+use Rattle.route_tasks.specs.Places.{customers, pairs_before, pair_number, variable, or_depot, other}
+use Rattle.route_tasks.specs.ModelOf.{vertex_of, arcs_of, graph_of, mapped_of, var_of, vars_of, term_of, terms_of, row_of, rows_of, model_of}
 use Rattle.route_tasks.proofs.ListLemmas.{all_none, all_joined, all_range, sum_small}
 use Rattle.route_tasks.proofs.PairLemmas.{pairs_size, few_pairs, variable_below, before_rises}
 use Rattle.route_tasks.proofs.RangeLemmas.{before_more}

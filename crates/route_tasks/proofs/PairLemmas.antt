@@ -1,12 +1,12 @@
 -- Lemmas on the variables of pairs of places.
-use Rattle.std.proofs.Common.{◌≡◌, ◌≢◌, ℕ, zero, suc, ◌+◌, ◌-◌, ◌*◌, ◌<◌, ◌≤◌, List, [], ◌∷◌, length, map, take, get_or, Bool, true, false, refl, sym, ◌∙◌, ap, subst, arith, inl, inr, sum_by, nat_lt, mul-le-mul}
+use Rattle.std.proofs.Common.{◌≡◌, ◌≢◌, ℕ, zero, suc, ◌+◌, ◌-◌, ◌*◌, ◌<◌, ◌≤◌, List, length, map, take, get_or, true, false, sym, ◌∙◌, ap, arith, inl, inr, sum_by, nat_lt, mul-le-mul}
 use Rattle.std.specs.List.{range_with_len, flat_map}
 use Rattle.std.proofs.lemmas.Bool.{cases_lt}
 use Rattle.std.proofs.lemmas.Bool.Decides.{nat_tests}
 use Rattle.std.proofs.lemmas.List.{map-id}
 use Rattle.std.proofs.lemmas.List.Concat.{length-flat_map, get_or-flat_map}
 use Rattle.std.proofs.lemmas.List.FromFn.{length-range_with_len, length-map-range_with_len, get_or-map-range_with_len, get_or-range_with_len, take-map-range_with_len}
-use Rattle.route_tasks.specs.Places.{over_pairs, pairs_before, pair_number, variable, or_depot, other}
+use Rattle.route_tasks.specs.Places.{over_pairs, pairs_before, pair_number, variable}
 use Rattle.route_tasks.proofs.RangeLemmas.{before_more, twice_before}
 
 -- there are fewer pairs before a lower place

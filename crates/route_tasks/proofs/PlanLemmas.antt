@@ -1,6 +1,6 @@
 -- The routes of a solution are a route plan of equal cost.
-use Rattle.std.proofs.Common.{◌≡◌, ◌≢◌, ℕ, zero, suc, ◌+◌, ◌-◌, ◌*◌, ◌<◌, ◌≤◌, min, max, ℤ, pos, ◌+ℤ◌, ◌*ℤ◌, ◌≤ℤ◌, List, [], ◌∷◌, length, map, get_or, Bool, true, false, not, ◌&&◌, cond, All, refl, sym, ◌∙◌, ap, subst, arith, nat_lt, inl, inr, ◌==◌, sum_by, ◌||◌, Some, None, IfSome, Option, mul-le-mul}
-use Rattle.std.specs.Prelude.{if◌then◌else◌, count_by, slice_index_or, ◌⊎◌}
+use Rattle.std.proofs.Common.{◌≡◌, ◌≢◌, ℕ, suc, ◌+◌, ◌-◌, ◌*◌, ◌<◌, ◌≤◌, ℤ, pos, ◌+ℤ◌, ◌*ℤ◌, List, [], ◌∷◌, length, map, get_or, Bool, true, false, not, ◌&&◌, cond, All, refl, sym, ◌∙◌, ap, subst, arith, nat_lt, inl, inr, ◌==◌, sum_by, ◌||◌, Some, None, mul-le-mul}
+use Rattle.std.specs.Prelude.{if◌then◌else◌, count_by}
 use Rattle.std.specs.List.{list_any}
 use Rattle.std.proofs.lemmas.Int.{ints}
 use Rattle.std.proofs.lemmas.Bool.{cases_eq, cases_lt}
@@ -10,29 +10,26 @@ use Rattle.std.proofs.lemmas.List.Elements.{All-map}
 use Rattle.std.proofs.lemmas.List.Sums.{sum_by-cons, get_or-le-sum_by}
 use Rattle.std.proofs.lemmas.List.FromFn.{get_or-map-range_with_len}
 use lib.IntN.{*ℤ-zero}
-use Rattle.path_graph.specs.declared.parts.GraphArc.{GraphArc}
 use Rattle.path_graph.specs.declared.parts.Vertex.{Vertex}
 use Rattle.path_graph.specs.Fit.{vertex_at}
 use Rattle.path_graph.specs.Sums.{sum_below, sum_over}
 use Rattle.path_graph.specs.Visits.{visit_over, visits_along, visit_count, is_visit}
-use Rattle.path_graph.specs.Walk.{arc_at}
 use Rattle.path_graph.proofs.VisitLemmas.{visit_count-cons}
 use Rattle.path_graph.proofs.SumLemmas.{sum_below-same, sum_below-add, sum_below-pick, sum_below-zero}
 use Rattle.path_graph.proofs.IntLemmas.{mul_z-add, times_choice}
-use Rattle.route_model.specs.declared.parts.Var.{Var}
 use Rattle.route_model.specs.declared.parts.Row.{Row}
 use Rattle.route_model.specs.declared.parts.RowTerm.{RowTerm}
 use Rattle.route_model.specs.declared.plan.Taken.{Taken}
 use Rattle.route_model.specs.declared.plan.Plan.{Plan}
-use Rattle.route_model.specs.Parts.{ModelParts, mapped_vars, var_at, row_at, term_at, graph_in}
-use Rattle.route_model.specs.Quantities.{is_mapped, uses_in, quantity, value_of, visits_in, visits_of, is_of, paths_of, row_sum, cost_of}
-use Rattle.route_model.specs.Solution.{IsSolution, IsBetween, RowHolds}
+use Rattle.route_model.specs.Parts.{mapped_vars, var_at, row_at, term_at}
+use Rattle.route_model.specs.Quantities.{is_mapped, uses_in, quantity, value_of, visits_in, is_of, row_sum, cost_of}
+use Rattle.route_model.specs.Solution.{IsSolution, IsBetween}
 use Rattle.route_tasks.specs.declared.task.RouteTask.{RouteTask}
 use Rattle.route_tasks.specs.Fit.{TaskFits}
 use Rattle.route_tasks.specs.Places.{customers, variable, or_depot, other}
-use Rattle.route_tasks.specs.ModelOf.{arcs_of, mapped_of, vars_of, vertices_of, vertex_of, set_of, graph_of, row_of, rows_of, terms_of, model_of}
+use Rattle.route_tasks.specs.ModelOf.{arcs_of, mapped_of, vars_of, vertices_of, set_of, graph_of, row_of, terms_of, model_of}
 use Rattle.route_tasks.specs.Routes.{IsCustomer, IsRoute, IsRoutePlan, way_of, route_cost, visited, routes_in, numbers_of, IsNumberedPlan}
-use Rattle.route_tasks.proofs.ModelLemmas.{other_place, terms_size, term_is, rows_size, term_at_other}
+use Rattle.route_tasks.proofs.ModelLemmas.{other_place, terms_size, term_is, rows_size}
 use Rattle.route_tasks.proofs.FitLemmas.{vertex_is}
 use Rattle.route_tasks.proofs.WalkLemmas.{IsTaskPath, each_path}
 use Rattle.route_tasks.proofs.ArcLemmas.{arc_is}

@@ -1,19 +1,17 @@
 -- Each route plan has a solution of equal cost.
-use Rattle.std.proofs.Common.{◌≡◌, ◌≢◌, ℕ, zero, suc, ◌+◌, ◌-◌, ◌*◌, ◌<◌, ◌≤◌, min, max, ℤ, pos, ◌+ℤ◌, ◌*ℤ◌, ◌≤ℤ◌, List, [], ◌∷◌, length, map, get_or, Bool, true, false, not, ◌&&◌, cond, All, refl, sym, ◌∙◌, ap, subst, arith, nat_lt, inl, inr, ◌==◌, sum_by, Some, None, Option}
+use Rattle.std.proofs.Common.{◌≡◌, ◌≢◌, ℕ, zero, suc, ◌+◌, ◌-◌, ◌*◌, ◌<◌, ◌≤◌, pos, ◌*ℤ◌, ◌≤ℤ◌, List, [], ◌∷◌, length, map, get_or, Bool, true, false, not, ◌&&◌, cond, All, refl, sym, ◌∙◌, ap, subst, arith, nat_lt, inl, inr, ◌==◌, sum_by, Some, None}
 use Rattle.std.specs.Prelude.{if◌then◌else◌, count_by, ◌⊎◌}
 use Rattle.std.proofs.lemmas.Int.{ints}
 use Rattle.std.proofs.lemmas.Bool.{cases_eq, cases_lt}
 use Rattle.std.proofs.lemmas.Bool.Decides.{nat_tests}
-use Rattle.std.proofs.lemmas.List.{length-map}
 use Rattle.std.proofs.lemmas.List.Elements.{All-map}
 use Rattle.std.proofs.lemmas.List.Sums.{sum_by-cons, get_or-le-sum_by}
 use Rattle.path_graph.specs.declared.parts.Vertex.{Vertex}
-use Rattle.path_graph.specs.declared.parts.Values.{Values}
 use Rattle.path_graph.specs.declared.parts.Window.{Window}
-use Rattle.path_graph.specs.Fit.{vertex_at, int_at, window_at}
+use Rattle.path_graph.specs.Fit.{vertex_at, window_at}
 use Rattle.path_graph.specs.Sums.{sum_below, sum_over}
 use Rattle.path_graph.specs.Visits.{visit_over, visits_along, visit_count, is_visit}
-use Rattle.path_graph.specs.Walk.{arc_at, IsFeasibleWalk, root_of}
+use Rattle.path_graph.specs.Walk.{IsFeasibleWalk, root_of}
 use Rattle.path_graph.proofs.VisitLemmas.{visit_count-cons}
 use Rattle.path_graph.proofs.SumLemmas.{sum_below-same, sum_below-pick}
 use Rattle.path_graph.proofs.IntLemmas.{times_choice}
@@ -21,7 +19,7 @@ use Rattle.route_model.specs.declared.parts.Var.{Var}
 use Rattle.route_model.specs.declared.parts.Row.{Row}
 use Rattle.route_model.specs.declared.plan.Taken.{Taken}
 use Rattle.route_model.specs.declared.plan.Plan.{Plan}
-use Rattle.route_model.specs.Parts.{taken_at, var_at, row_at, graph_in}
+use Rattle.route_model.specs.Parts.{var_at, graph_in}
 use Rattle.route_model.specs.Quantities.{is_mapped, uses_in, visits_in, is_of, value_of, row_sum, paths_of}
 use Rattle.route_model.specs.Solution.{IsSolution, IsPath, InBox, RowHolds, IsBetween}
 use Rattle.route_tasks.specs.declared.task.Style.{Style}
@@ -29,14 +27,14 @@ use Rattle.route_tasks.specs.declared.task.Style.TheVariants.{Euclid, Tenths}
 use Rattle.route_tasks.specs.declared.task.RouteTask.{RouteTask}
 use Rattle.route_tasks.specs.Fit.{TaskFits}
 use Rattle.route_tasks.specs.Places.{customers, place_at, pairs_before, pair_number, variable, or_depot}
-use Rattle.route_tasks.specs.ModelOf.{is_timed, is_load_main, laid, window, windows_of, set_of, var_of, vars_of, vertices_of, graph_of, row_of, rows_of, arcs_of, model_of}
-use Rattle.route_tasks.specs.Routes.{IsCustomer, IsRoute, IsRoutePlan, IsOnTime, KeepsTimes, load_of, visited, routes_in, route_cost, HasSolution, RoutesHaveSolutionsLaw}
+use Rattle.route_tasks.specs.ModelOf.{is_timed, is_load_main, laid, window, set_of, var_of, vars_of, vertices_of, graph_of, arcs_of, model_of}
+use Rattle.route_tasks.specs.Routes.{IsCustomer, IsRoute, IsRoutePlan, IsOnTime, KeepsTimes, visited, routes_in, route_cost, RoutesHaveSolutionsLaw}
 use Rattle.route_tasks.proofs.RangeLemmas.{before_more}
 use Rattle.route_tasks.proofs.PairLemmas.{pair_at, pairs_size}
 use Rattle.route_tasks.proofs.ArcLemmas.{arc_is}
 use Rattle.route_tasks.proofs.FitLemmas.{vertex_is}
 use Rattle.route_tasks.proofs.ModelLemmas.{rows_size}
-use Rattle.route_tasks.proofs.WayLemmas.{IsStep, IsWay, source_windows}
+use Rattle.route_tasks.proofs.WayLemmas.{IsWay, source_windows}
 use Rattle.route_tasks.proofs.CostLemmas.{arc_variable, same_pair, variable_swap, step_variable, step_from, step_differs, inside_head, sink_head}
 use Rattle.route_tasks.proofs.PlanLemmas.{IsOnce, sums_over, over_each, count_items, mapped_test, plain_quantity, row_at_is, row_value, plan_price, sum_mapped}
 use Rattle.route_tasks.proofs.MadeLemmas.{way_for, IsSparse, rest_sparse, not_again, way_made, way_leads, way_visits, way_passes}
@@ -75,12 +73,12 @@ route_size task route are =
 total_size : (task : RouteTask) (routes : List (List ℕ)) → IsRoutePlan task routes → sum_by length routes ≡ customers task
 total_size task routes plan =
     let left : sum_below (customers task) (λ k. pos 1 *ℤ pos (sum_by (λ route. count_by (λ x. x == k + 1) route) routes)) ≡ pos (customers task) =
-        sum_below-same (customers task) (λ k. pos 1 *ℤ pos (sum_by (λ route. count_by (λ x. x == k + 1) route) routes)) (λ k. pos 1 *ℤ pos 1) (λ k l. ap (λ c. pos 1 *ℤ pos c) (plan.once (k + 1) (omega arith, omega (arith, l))))
-        ∙ units (customers task) in
+    sum_below-same (customers task) (λ k. pos 1 *ℤ pos (sum_by (λ route. count_by (λ x. x == k + 1) route) routes)) (λ k. pos 1 *ℤ pos 1) (λ k l. ap (λ c. pos 1 *ℤ pos c) (plan.once (k + 1) (omega arith, omega (arith, l))))
+    ∙ units (customers task) in
     let right : sum_below (customers task) (λ k. pos 1 *ℤ pos (sum_by (λ route. count_by (λ x. x == k + 1) route) routes)) ≡ pos (sum_by length routes) =
-        sums_over (customers task) (λ k. pos 1) (λ k (route : List ℕ). count_by (λ x. x == k + 1) route) routes
-        ∙ (over_each (λ (route : List ℕ). sum_below (customers task) (λ k. pos 1 *ℤ pos (count_by (λ x. x == k + 1) route))) (λ (route : List ℕ). pos (length route)) routes (λ k d l. route_size task (get_or routes k d) (plan.each k d l).customers_only)
-        ∙ lengths_over length routes) in
+    sums_over (customers task) (λ k. pos 1) (λ k (route : List ℕ). count_by (λ x. x == k + 1) route) routes
+    ∙ (over_each (λ (route : List ℕ). sum_below (customers task) (λ k. pos 1 *ℤ pos (count_by (λ x. x == k + 1) route))) (λ (route : List ℕ). pos (length route)) routes (λ k d l. route_size task (get_or routes k d) (plan.each k d l).customers_only)
+    ∙ lengths_over length routes) in
     omega (arith, ints, left, right)
 
 each_at_least : (f : List ℕ → ℕ) (xs : List (List ℕ)) → All (λ x. 1 ≤ f x) xs → length xs ≤ sum_by f xs
@@ -134,6 +132,7 @@ walk_made task route fits is sparse few = record {
   where
     way : IsWay task 0 (way_for task 0 route) route
     way = way_made task route is.some is.customers_only sparse
+
     root : (root_of (graph_of task)).at ≡ laid (is_timed task.style) (is_load_main task) (pos 10 *ℤ (place_at task 0).ready) (pos 0) (pos 0) (pos 0)
     root =
         (λ i. map (λ k. (window_at (source_windows task i) k).low) (0 ∷ 1 ∷ 2 ∷ 3 ∷ 4 ∷ 5 ∷ []))
@@ -144,7 +143,7 @@ way_sets : (task : RouteTask) (u : ℕ) (arcs route : List ℕ) (s : ℕ) → Is
 way_sets task u [] route s way = absurd way
 way_sets task u (a ∷ rest) [] s way =
     let set : visit_over (graph_of task) a ≡ None =
-        ap (λ k. (vertex_at (vertices_of task) k).set) way.0.head ∙ (ap (λ (x : Vertex). x.set) (vertex_is task (customers task + 1) (omega arith)) ∙ no_set (customers task)) in
+    ap (λ k. (vertex_at (vertices_of task) k).set) way.0.head ∙ (ap (λ (x : Vertex). x.set) (vertex_is task (customers task + 1) (omega arith)) ∙ no_set (customers task)) in
     let here : cond {A = ℕ} (is_visit s (visit_over (graph_of task) a)) 1 0 ≡ 0 = ap (λ x. cond {A = ℕ} (is_visit s x) 1 0) set in
     let nothing : visit_count s (visits_along (graph_of task) rest) ≡ 0 = ap (λ xs. visit_count s (visits_along (graph_of task) xs)) way.1 in
     omega (arith, here, nothing, visit_count-cons s (visit_over (graph_of task) a) (visits_along (graph_of task) rest))
@@ -154,13 +153,14 @@ way_sets task u (a ∷ rest) [] s way =
 way_sets task u (a ∷ rest) (v ∷ more) s way =
     let some : 1 ≤ v = omega (arith, (arc_is task a way.0.there).some, way.0.head) in
     let set : visit_over (graph_of task) a ≡ Some (v - 1) =
-        ap (λ k. (vertex_at (vertices_of task) k).set) way.0.head ∙ (ap (λ (x : Vertex). x.set) (vertex_is task v (omega (arith, way.1))) ∙ own_set (customers task) v some way.1) in
+    ap (λ k. (vertex_at (vertices_of task) k).set) way.0.head ∙ (ap (λ (x : Vertex). x.set) (vertex_is task v (omega (arith, way.1))) ∙ own_set (customers task) v some way.1) in
     let here : cond {A = ℕ} (is_visit s (visit_over (graph_of task) a)) 1 0 ≡ cond {A = ℕ} (v == s + 1) 1 0 =
-        ap (λ x. cond {A = ℕ} (is_visit s x) 1 0) set ∙ ap (λ b. cond {A = ℕ} b 1 0) (tests v some) in
+    ap (λ x. cond {A = ℕ} (is_visit s x) 1 0) set ∙ ap (λ b. cond {A = ℕ} b 1 0) (tests v some) in
     omega (arith, here, way_sets task v rest more s way.2, visit_count-cons s (visit_over (graph_of task) a) (visits_along (graph_of task) rest), sum_by-cons (λ x. if x == s + 1 then 1 else 0) v more)
   where
     own_set : (n x : ℕ) → 1 ≤ x → x ≤ n → set_of n x ≡ Some (x - 1)
     own_set n x some l = let t : (nat_lt 0 x && not (nat_lt n x)) ≡ true = grind (arith, nat_tests) in ap (λ b. if b then Some (x - 1) else None) t
+
     tests : (x : ℕ) → 1 ≤ x → ((x - 1) == s) ≡ (x == s + 1)
     tests x some = elim (cases_eq x (s + 1)) [
       | inl same ↦ let p : (x == s + 1) ≡ true = grind (arith, nat_tests) in let back : x - 1 ≡ s = omega (arith, same) in let t : ((x - 1) == s) ≡ true = grind (arith, nat_tests) in t ∙ sym p
@@ -214,7 +214,7 @@ uses_touch task u (a ∷ rest) [] p q some l m differ way =
     let d = step_differs task u a (customers task + 1) 0 way.0 e in
     let one = step_uses (customers task) u 0 p q (step_from task u a (customers task + 1) way.0) d.0 d.1 l m differ in
     let is : cond {A = ℕ} (arc_variable task a == variable (customers task) p q) 1 0 ≡ cond (variable (customers task) u 0 == variable (customers task) p q) 1 0 =
-        ap (λ x. cond {A = ℕ} (x == variable (customers task) p q) 1 0) (step_variable task u a (customers task + 1) 0 way.0 e) in
+    ap (λ x. cond {A = ℕ} (x == variable (customers task) p q) 1 0) (step_variable task u a (customers task + 1) 0 way.0 e) in
     let t : (0 == p) ≡ false = grind (arith, nat_tests) in
     let z : cond {A = ℕ} (0 == p) 1 0 ≡ 0 = ap (λ b. cond {A = ℕ} b 1 0) t in
     let nothing : uses task (variable (customers task) p q) rest ≡ 0 = ap (uses task (variable (customers task) p q)) way.1 in
@@ -224,7 +224,7 @@ uses_touch task u (a ∷ rest) (v ∷ more) p q some l m differ way =
     let d = step_differs task u a v v way.0 e in
     let one = step_uses (customers task) u v p q (step_from task u a v way.0) d.0 d.1 l m differ in
     let is : cond {A = ℕ} (arc_variable task a == variable (customers task) p q) 1 0 ≡ cond (variable (customers task) u v == variable (customers task) p q) 1 0 =
-        ap (λ x. cond {A = ℕ} (x == variable (customers task) p q) 1 0) (step_variable task u a v v way.0 e) in
+    ap (λ x. cond {A = ℕ} (x == variable (customers task) p q) 1 0) (step_variable task u a v v way.0 e) in
     let later = uses_touch task v rest more p q some l m differ way.2 in
     omega (arith, one, is, later, uses_next task (variable (customers task) p q) a rest way.0.there, sum_by-cons (λ x. if x == p then 1 else 0) v more)
 
@@ -243,10 +243,13 @@ way_once task u (a ∷ rest) (v ∷ others) p q first some l more m differ spars
   where
     e : or_depot (customers task) v ≡ v
     e = inside_head (customers task) v way.1
+
     d : (v ≤ customers task) × (u ≢ v)
     d = step_differs task u a v v way.0 e
+
     next : uses task (variable (customers task) p q) (a ∷ rest) ≡ cond (arc_variable task a == variable (customers task) p q) 1 0 + uses task (variable (customers task) p q) rest
     next = uses_next task (variable (customers task) p q) a rest way.0.there
+
     none_later : uses task (variable (customers task) u v) rest ≤ 0
     none_later =
         let touch = uses_touch task v rest others u v first (step_from task u a v way.0) way.1 d.1 way.2 in
@@ -254,6 +257,7 @@ way_once task u (a ∷ rest) (v ∷ others) p q first some l more m differ spars
         let t : (v == u) ≡ false = grind (arith, nat_tests) in
         let z : cond {A = ℕ} (v == u) 1 0 ≡ 0 = ap (λ b. cond {A = ℕ} b 1 0) t in
         omega (arith, touch, z, not_again u (v ∷ others) sparse, sum_by-cons (λ x. if x == u then 1 else 0) v others)
+
     by_first : (variable (customers task) u v ≡ variable (customers task) p q) ⊎ (variable (customers task) u v ≢ variable (customers task) p q) → uses task (variable (customers task) p q) rest ≤ 1 → uses task (variable (customers task) p q) (a ∷ rest) ≤ 1
     by_first (inl same) later =
         let here : uses task (variable (customers task) p q) rest ≤ 0 = subst (λ (j : ℕ). uses task j rest ≤ 0) same none_later in
@@ -273,8 +277,8 @@ route_once task (a ∷ rest) (v ∷ others) p q some l more m differ sparse way 
     let e = inside_head (customers task) v way.1 in
     let d = step_differs task 0 a v v way.0 e in
     let at : arc_variable task a ≢ variable (customers task) p q = λ s.
-        let pair = same_pair (customers task) 0 v p q (omega arith) way.1 d.1 l m differ (sym (step_variable task 0 a v v way.0 e) ∙ s) in
-        omega (arith, pair.0, some, more) in
+    let pair = same_pair (customers task) 0 v p q (omega arith) way.1 d.1 l m differ (sym (step_variable task 0 a v v way.0 e) ∙ s) in
+    omega (arith, pair.0, some, more) in
     let t : (arc_variable task a == variable (customers task) p q) ≡ false = grind (arith, nat_tests) in
     let z : cond {A = ℕ} (arc_variable task a == variable (customers task) p q) 1 0 ≡ 0 = ap (λ b. cond {A = ℕ} b 1 0) t in
     let later = way_once task v rest others p q (omega (arith, (arc_is task a way.0.there).some, way.0.head)) some l more m differ sparse way.2 in
@@ -297,6 +301,7 @@ pair_of n (suc m) j l below = by_row (cases_lt j (pairs_before n m)) (pair_of n 
       where
         next : (k : ℕ) → suc k ≡ k + 1
         next k = omega arith
+
     by_row : (j < pairs_before n m) ⊎ (pairs_before n m ≤ j) → (j < pairs_before n m → IsPair n j) → IsPair n j
     by_row (inl less) before = before less
     by_row (inr least) before = record { low = m; high = m + 1 + (j - pairs_before n m); order = omega arith; within = omega (arith, more, below, least, l); is = omega (arith, least) }
@@ -333,8 +338,11 @@ module _ (task : RouteTask) (fits : TaskFits task) (routes : List (List ℕ)) (p
   each_walk : All (IsPath (model_of task)) (map (taken_for task) routes)
   each_walk = All-map (IsPath (model_of task)) (taken_for task) routes (λ k d l.
       let short = get_or-le-sum_by length routes k d l in
-      record { graph = omega arith; count = omega arith;
-        walk = walk_made task (get_or routes k d) fits (plan.each k d l) (route_sparse task routes k d plan l) (omega (arith, short, total_size task routes plan)) })
+      record {
+        graph = omega arith;
+        count = omega arith;
+        walk = walk_made task (get_or routes k d) fits (plan.each k d l) (route_sparse task routes k d plan l) (omega (arith, short, total_size task routes plan));
+      })
 
   same_routes : (rs : List (List ℕ)) → All (λ r. visited task (way_for task 0 r) ≡ r) rs → map (λ (t : Taken). visited task t.arcs) (map (taken_for task) rs) ≡ rs
   same_routes [] each = refl
@@ -352,7 +360,7 @@ module _ (task : RouteTask) (fits : TaskFits task) (routes : List (List ℕ)) (p
   set_taken : (s : ℕ) → s < customers task → sum_by (λ (t : Taken). t.count * visits_in (model_of task).graphs s t.graph t.arcs) (map (taken_for task) routes) ≤ 1
   set_taken s l =
       let most = sum_at_most (λ r. visits_in (model_of task).graphs s 0 (way_for task 0 r)) (λ r. count_by (λ x. x == s + 1) r) routes
-          (λ k d h. let e = way_sets task 0 (way_for task 0 (get_or routes k d)) (get_or routes k d) s (way_at k d h) in omega (arith, e)) in
+      (λ k d h. let e = way_sets task 0 (way_for task 0 (get_or routes k d)) (get_or routes k d) s (way_at k d h) in omega (arith, e)) in
       let once = plan.once (s + 1) (omega arith, omega (arith, l)) in
       omega (arith, plan_uses (visits_in (model_of task).graphs s), most, once)
 
@@ -360,11 +368,11 @@ module _ (task : RouteTask) (fits : TaskFits task) (routes : List (List ℕ)) (p
   pair_taken p q some l more m differ =
       let j : ℕ = variable (customers task) p q in
       let most = sum_at_most (λ r. uses task j (way_for task 0 r)) (λ r. count_by (λ x. x == p) r) routes (λ k d h.
-          let once = route_once task (way_for task 0 (get_or routes k d)) (get_or routes k d) p q some l more m differ (route_sparse task routes k d plan h) (way_at k d h) in
-          let touch = uses_touch task 0 (way_for task 0 (get_or routes k d)) (get_or routes k d) p q some l m differ (way_at k d h) in
-          let t : (0 == p) ≡ false = grind (arith, nat_tests) in
-          let z : cond {A = ℕ} (0 == p) 1 0 ≡ 0 = ap (λ b. cond {A = ℕ} b 1 0) t in
-          omega (arith, once, touch, z)) in
+      let once = route_once task (way_for task 0 (get_or routes k d)) (get_or routes k d) p q some l more m differ (route_sparse task routes k d plan h) (way_at k d h) in
+      let touch = uses_touch task 0 (way_for task 0 (get_or routes k d)) (get_or routes k d) p q some l m differ (way_at k d h) in
+      let t : (0 == p) ≡ false = grind (arith, nat_tests) in
+      let z : cond {A = ℕ} (0 == p) 1 0 ≡ 0 = ap (λ b. cond {A = ℕ} b 1 0) t in
+      omega (arith, once, touch, z)) in
       omega (arith, plan_uses (uses_in (model_of task).maps j), most, plan.once p (some, l))
 
   depot_taken : (p : ℕ) → 1 ≤ p → p ≤ customers task → value_of (model_of task) (plan_for task routes) (variable (customers task) p 0) ≤ 2
@@ -372,10 +380,10 @@ module _ (task : RouteTask) (fits : TaskFits task) (routes : List (List ℕ)) (p
       let j : ℕ = variable (customers task) p 0 in
       let differ : p ≢ 0 = λ e. omega (arith, e, some) in
       let most = sum_at_most (λ r. uses task j (way_for task 0 r)) (λ r. 2 * count_by (λ x. x == p) r) routes (λ k d h.
-          let touch = uses_touch task 0 (way_for task 0 (get_or routes k d)) (get_or routes k d) p 0 some l (omega arith) differ (way_at k d h) in
-          let t : (0 == p) ≡ false = grind (arith, nat_tests) in
-          let z : cond {A = ℕ} (0 == p) 1 0 ≡ 0 = ap (λ b. cond {A = ℕ} b 1 0) t in
-          omega (arith, touch, z)) in
+      let touch = uses_touch task 0 (way_for task 0 (get_or routes k d)) (get_or routes k d) p 0 some l (omega arith) differ (way_at k d h) in
+      let t : (0 == p) ≡ false = grind (arith, nat_tests) in
+      let z : cond {A = ℕ} (0 == p) 1 0 ≡ 0 = ap (λ b. cond {A = ℕ} b 1 0) t in
+      omega (arith, touch, z)) in
       omega (arith, plan_uses (uses_in (model_of task).maps j), most, twice_sum (λ r. count_by (λ x. x == p) r) routes, plan.once p (some, l))
 
   var_taken : (j : ℕ) → j < length (vars_of task) → InBox (model_of task) (plan_for task routes) j
@@ -383,12 +391,16 @@ module _ (task : RouteTask) (fits : TaskFits task) (routes : List (List ℕ)) (p
     where
       pair : IsPair (customers task) j
       pair = pair_of (customers task) (customers task) j (omega arith) (omega (arith, l, pairs_size (customers task) (var_of task)))
+
       number : ℕ
       number = pair_number (customers task) pair.low pair.high
+
       var : var_at (vars_of task) number ≡ var_of task pair.low pair.high
       var = pair_at (customers task) pair.low pair.high (var_of task) _ pair.order pair.within
+
       at : variable (customers task) pair.low pair.high ≡ number
       at = pair_variable (customers task) pair.low pair.high pair.order
+
       box : (pos 0 ≤ℤ pos (value_of (model_of task) (plan_for task routes) number)) × (pos (value_of (model_of task) (plan_for task routes) number) ≤ℤ (var_of task pair.low pair.high).high)
       box = elim (cases_eq pair.low 0) [
         | inl depot ↦
@@ -401,9 +413,10 @@ module _ (task : RouteTask) (fits : TaskFits task) (routes : List (List ℕ)) (p
             let t : (pair.low == 0) ≡ false = grind (arith, nat_tests) in
             let high : (var_of task pair.low pair.high).high ≡ pos 1 = ap (λ b. if b then pos 2 else pos 1) t in
             let most = subst (λ (k : ℕ). value_of (model_of task) (plan_for task routes) k ≤ 1) at
-                (pair_taken pair.low pair.high (omega (arith, customer)) (omega (arith, pair.order, pair.within)) (omega (arith, pair.order)) pair.within (λ e. omega (arith, e, pair.order))) in
+            (pair_taken pair.low pair.high (omega (arith, customer)) (omega (arith, pair.order, pair.within)) (omega (arith, pair.order)) pair.within (λ e. omega (arith, e, pair.order))) in
             (omega (arith, ints), omega (arith, ints, high, most))
       ]
+
       boxed : InBox (model_of task) (plan_for task routes) number
       boxed = subst (λ (x : Var). (x.low ≤ℤ pos (value_of (model_of task) (plan_for task routes) number)) × (pos (value_of (model_of task) (plan_for task routes) number) ≤ℤ x.high)) (sym var) box
 

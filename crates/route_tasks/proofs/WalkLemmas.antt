@@ -1,12 +1,12 @@
 -- Lemmas on the walks of the model of a task.
-use Rattle.std.proofs.Common.{◌≡◌, ℕ, zero, suc, ◌+◌, ◌<◌, ◌≤◌, List, [], ◌∷◌, ◌++◌, length, map, take, get_or, All, refl, sym, ◌∙◌, ap, subst, arith}
+use Rattle.std.proofs.Common.{◌≡◌, ℕ, ◌+◌, ◌<◌, ◌≤◌, List, [], ◌∷◌, ◌++◌, length, map, take, get_or, All, sym, ◌∙◌, ap, subst, arith}
 use Rattle.std.proofs.lemmas.List.{get_or_default, take_more, map_push}
 use Rattle.std.proofs.lemmas.List.Elements.{All-cons}
 use Rattle.path_graph.specs.Walk.{GraphParts, Leads, IsFeasibleWalk, arc_at}
 use Rattle.route_model.specs.declared.plan.Taken.{Taken}
 use Rattle.route_model.specs.declared.plan.Plan.{Plan}
 use Rattle.route_model.specs.Parts.{graph_at, taken_at}
-use Rattle.route_model.specs.Solution.{IsPath, ArePaths, IsSolution}
+use Rattle.route_model.specs.Solution.{IsPath, ArePaths}
 use Rattle.route_tasks.specs.declared.task.RouteTask.{RouteTask}
 use Rattle.route_tasks.specs.Places.{place_at}
 use Rattle.route_tasks.specs.ModelOf.{arcs_of, graph_of, model_of}

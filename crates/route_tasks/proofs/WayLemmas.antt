@@ -1,30 +1,26 @@
 -- The walks of the model of a task are the ways of routes.
-use Rattle.std.proofs.Common.{◌≡◌, ◌≢◌, ℕ, zero, suc, ◌+◌, ◌-◌, ◌*◌, ◌<◌, ◌≤◌, ℤ, pos, ◌+ℤ◌, ◌*ℤ◌, ◌≤ℤ◌, List, [], ◌∷◌, length, map, filter, get_or, Bool, true, false, not, cond, All, refl, sym, ◌∙◌, ap, subst, arith, nat_lt, inl, inr}
-use Rattle.std.specs.Prelude.{if◌then◌else◌, slice_index_or}
+use Rattle.std.proofs.Common.{◌≡◌, ℕ, suc, ◌+◌, ◌<◌, ◌≤◌, ℤ, pos, ◌+ℤ◌, ◌*ℤ◌, ◌≤ℤ◌, List, [], ◌∷◌, length, map, Bool, true, false, not, cond, All, refl, sym, ◌∙◌, ap, subst, arith, nat_lt}
 use Rattle.std.specs.Int.{int_max}
 use Rattle.std.proofs.lemmas.Int.{ints, clamps}
-use Rattle.std.proofs.lemmas.Bool.{cases_eq, cases_lt}
 use Rattle.std.proofs.lemmas.Bool.Decides.{nat_tests}
 use Rattle.std.proofs.lemmas.List.{get_or_past}
 use Rattle.std.proofs.lemmas.List.Elements.{All-cons}
 use Rattle.path_graph.specs.declared.parts.Values.{Values}
 use Rattle.path_graph.specs.declared.parts.Window.{Window}
-use Rattle.path_graph.specs.declared.parts.GraphArc.{GraphArc}
 use Rattle.path_graph.specs.declared.parts.Vertex.{Vertex}
 use Rattle.path_graph.specs.Fit.{int_at, window_at, vertex_at}
-use Rattle.path_graph.specs.Sums.{sum_over}
-use Rattle.path_graph.specs.Walk.{GraphParts, Leads, Passes, IsFeasibleWalk, arc_at, over_of, root_of, moved_at, Takes}
+use Rattle.path_graph.specs.Walk.{Leads, Passes, IsFeasibleWalk, arc_at, over_of, root_of, moved_at, Takes}
 use Rattle.route_tasks.specs.declared.task.Stop.{Stop}
 use Rattle.route_tasks.specs.declared.task.Style.{Style}
 use Rattle.route_tasks.specs.declared.task.Style.TheVariants.{Euclid, Tenths}
 use Rattle.route_tasks.specs.declared.task.RouteTask.{RouteTask}
 use Rattle.route_tasks.specs.Fit.{TaskFits}
 use Rattle.route_tasks.specs.Distance.{distance_of}
-use Rattle.route_tasks.specs.Places.{customers, place_at, distance_at}
-use Rattle.route_tasks.specs.ModelOf.{is_timed, is_load_main, laid, window, windows_of, needs_of, time_need, stop_need, arcs_of, graph_of, vertices_of, vertex_of}
-use Rattle.route_tasks.specs.Routes.{IsCustomer, IsRoute, IsOnTime, KeepsTimes, time_after, load_of, way_of, visited}
+use Rattle.route_tasks.specs.Places.{customers, place_at}
+use Rattle.route_tasks.specs.ModelOf.{is_timed, is_load_main, laid, window, windows_of, needs_of, time_need, stop_need, arcs_of, graph_of, vertices_of}
+use Rattle.route_tasks.specs.Routes.{IsCustomer, IsRoute, IsOnTime, KeepsTimes, time_after, load_of, visited}
 use Rattle.route_tasks.proofs.ListLemmas.{all_none}
-use Rattle.route_tasks.proofs.ArcLemmas.{IsArc, arc_is}
+use Rattle.route_tasks.proofs.ArcLemmas.{arc_is}
 use Rattle.route_tasks.proofs.FitLemmas.{vertex_is}
 
 -- an arc from one place to another

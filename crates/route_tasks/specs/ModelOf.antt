@@ -11,7 +11,6 @@ use Rattle.route_model.specs.declared.parts.RowTerm.{RowTerm}
 use Rattle.route_model.specs.declared.parts.Row.{Row}
 use Rattle.route_model.specs.Parts.{ModelParts}
 use Rattle.route_tasks.specs.declared.limits.TheConstants.{TENTHS}
-use Rattle.route_tasks.specs.declared.task.Stop.{Stop}
 use Rattle.route_tasks.specs.declared.task.Style.{Style}
 use Rattle.route_tasks.specs.declared.task.Style.TheVariants.{Euclid, Tenths}
 use Rattle.route_tasks.specs.declared.task.RouteTask.{RouteTask}

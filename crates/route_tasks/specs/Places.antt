@@ -1,5 +1,5 @@
 -- The places of a task, and the variables of the pairs of places.
-use Rattle.std.specs.Prelude.{ℕ, ◌+◌, ◌-◌, ◌≤◌, ◌≢◌, ℤ, List, ◌∷◌, length, Bool, nat_lt, not, ◌==◌, if◌then◌else◌, slice_index_or, sum_by, filter, map}
+use Rattle.std.specs.Prelude.{ℕ, ◌+◌, ◌-◌, List, ◌∷◌, length, nat_lt, if◌then◌else◌, slice_index_or, sum_by, map}
 use Rattle.std.specs.List.{range_with_len, flat_map}
 use Rattle.route_tasks.specs.declared.task.Stop.{Stop}
 use Rattle.route_tasks.specs.declared.task.RouteTask.{RouteTask}

@@ -1,7 +1,7 @@
 ghost use Rattle.std.specs.Prelude.{◌≡◌, ℕ, ◌*◌, ◌+◌, ◌-◌, ◌<◌, ◌≤◌, ◌≤ℤ◌, pos, unsigned_abs};
 ghost use Rattle.route_tasks.specs.Distance.{squared, squared_gap, IsDistance, distance_of, IsPlaced, IsGreatest, IsEuclid, IsTenths};
 
-use crate::limits::{MAX_DISTANCE, MAX_SQUARED};
+use crate::limits::{MAX_DISTANCE, MAX_GAP, MAX_SQUARED};
 use crate::task::{RouteTask, Stop, Style};
 
 /// The distance of two stops.
@@ -13,7 +13,7 @@ pub fn distance(task: &RouteTask, a: &Stop, b: &Stop) -> i64
     requires second { IsPlaced b.now }
     ensures rule { IsDistance task.now.style (squared a.now b.now) (unsigned_abs result) }
     ensures value { result ≡ pos (distance_of task.now.style a.now b.now) }
-    ensures bound { result ≤ℤ MAX_DISTANCE }
+    ensures bound { result ≤ℤ pos MAX_DISTANCE }
 {
     rounded(task.style, square_of(a, b)) as i64
 }
@@ -22,7 +22,7 @@ pub fn distance(task: &RouteTask, a: &Stop, b: &Stop) -> i64
 fn rounded(style: Style, square: u64) -> u64
     requires { square ≤ MAX_SQUARED }
     ensures rule { IsDistance style square result }
-    ensures bound { result ≤ 2828427 }
+    ensures bound { result ≤ MAX_DISTANCE }
 {
     match style {
         Style::Euclid => nearest(square),
@@ -34,7 +34,7 @@ fn rounded(style: Style, square: u64) -> u64
 fn nearest(square: u64) -> u64
     requires { square ≤ MAX_SQUARED }
     ensures rule { IsEuclid square result }
-    ensures bound { result ≤ 2828427 }
+    ensures bound { result ≤ MAX_DISTANCE }
 {
     ((4 * square).isqrt() + 1) / 2
 }
@@ -43,7 +43,7 @@ fn nearest(square: u64) -> u64
 fn cut_off(square: u64) -> u64
     requires { square ≤ MAX_SQUARED }
     ensures rule { IsTenths square result }
-    ensures bound { result ≤ 2828427 }
+    ensures bound { result ≤ MAX_DISTANCE }
 {
     (100 * square).isqrt()
 }
@@ -58,11 +58,11 @@ fn square_of(a: &Stop, b: &Stop) -> u64
     squared_of(a.x.abs_diff(b.x)) + squared_of(a.y.abs_diff(b.y))
 }
 
-/// The square of a number up to 200,000.
+/// The square of how far two coordinates are apart.
 fn squared_of(gap: u32) -> u64
-    requires { gap ≤ 200000 }
+    requires { gap ≤ MAX_GAP }
     ensures square { result ≡ gap * gap }
-    ensures bound { result ≤ 40000000000 }
+    ensures bound { result ≤ MAX_GAP * MAX_GAP }
 {
     u64::from(gap) * u64::from(gap)
 }

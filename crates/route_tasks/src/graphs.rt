@@ -8,7 +8,7 @@ ghost use Rattle.route_tasks.specs.ModelOf.{is_timed, is_load_main, laid, window
 ghost use Rattle.route_tasks.specs.Shape.{shape_of};
 
 use crate::distances::distance;
-use crate::limits::{MAX_DISTANCE, MAX_TIME, TENTHS};
+use crate::limits::{MAX_CUSTOMERS, MAX_DISTANCE, MAX_TIME, TENTHS};
 use crate::places::{arc_variable, customer_count, place};
 use crate::task::{RouteTask, Stop, Style};
 use path_graph::{Ends, Graph, GraphArc, GraphFault, List, NoMemory, Vertex, Window};
@@ -78,7 +78,7 @@ fn tenfold(amount: i32) -> i32
     requires { IsFromTo (pos 0) MAX_TIME amount }
     ensures value { result ≡ TENTHS *ℤ amount }
     ensures low { pos 0 ≤ℤ result }
-    ensures high { result ≤ℤ pos 100000000 }
+    ensures high { result ≤ℤ (TENTHS *ℤ MAX_TIME) }
 {
     TENTHS * amount
 }
@@ -128,7 +128,7 @@ fn windows(task: &RouteTask, shape: Shape, v: u32) -> [Window; 6]
 
 /// The packing set of a place: customer `i` is in set `i - 1`.
 fn set(n: u32, v: u32) -> Option<u16>
-    requires { n ≤ 244 }
+    requires { n ≤ MAX_CUSTOMERS }
     ensures { result ≡ set_of n v }
 {
     if v > 0 && v <= n {
@@ -175,8 +175,8 @@ fn time_of(task: &RouteTask, tail: u32, head: u32) -> i32
 
 /// A time and a distance.
 fn sum(time: i32, distance: i64) -> i32
-    requires first { IsFromTo (pos 0) (pos 100000000) time }
-    requires second { IsFromTo (pos 0) MAX_DISTANCE distance }
+    requires first { IsFromTo (pos 0) (TENTHS *ℤ MAX_TIME) time }
+    requires second { IsFromTo (pos 0) (pos MAX_DISTANCE) distance }
     ensures { result ≡ time +ℤ distance }
 {
     time + distance as i32
@@ -216,7 +216,7 @@ fn arc(task: &RouteTask, shape: Shape, tail: u32, head: u32) -> GraphArc
 
 /// Whether an arc leads from a place to another.
 fn leads(n: u32, tail: u32, head: u32) -> bool
-    requires { n ≤ 244 }
+    requires { n ≤ MAX_CUSTOMERS }
     ensures { result ≡ is_head n tail head }
 {
     head != tail && !(tail == 0 && head == n + 1)
@@ -287,7 +287,7 @@ pub(crate) fn graph(alloc: Global, task: &RouteTask, arcs: &[GraphArc]) -> Resul
 
 /// The variable of an arc, in a list.
 fn mapped(alloc: Global, n: u32, arc: &GraphArc) -> Result<List<u32>, NoMemory>
-    requires few { n ≤ 244 }
+    requires few { n ≤ MAX_CUSTOMERS }
     requires from { arc.now.tail ≤ n }
     requires to { 1 ≤ arc.now.head }
     requires different { arc.now.head ≢ arc.now.tail }

@@ -14,7 +14,9 @@ pub const MAX_SERVICE: i32 = 1_000_000;
 pub const MAX_NUMBER: u32 = 1_000_000;
 /// How many units of time and distance one unit of a task has, where these are kept in tenths.
 pub const TENTHS: i32 = 10;
+/// How far two coordinates may be apart.
+pub const MAX_GAP: u32 = 200_000;
 /// The greatest squared distance: 2 × 200,000².
 pub const MAX_SQUARED: u64 = 80_000_000_000;
 /// No distance is above this.
-pub const MAX_DISTANCE: i64 = 2_828_427;
+pub const MAX_DISTANCE: u64 = 2_828_427;

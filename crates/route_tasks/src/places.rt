@@ -10,7 +10,7 @@ pub(crate) fn customer_count(task: &RouteTask) -> u32
     requires { TaskFits task.now }
     ensures count { result ≡ customers task.now }
     ensures some { 1 ≤ result }
-    ensures few { result ≤ 244 }
+    ensures few { result ≤ MAX_CUSTOMERS }
 {
     task.stops.len() as u32
 }
@@ -29,17 +29,17 @@ pub(crate) fn place(task: &RouteTask, v: u32) -> Stop
 
 /// How many pairs of places have a lower place below this one.
 fn pairs_below(n: u32, low: u32) -> u32
-    requires few { n ≤ 244 }
+    requires few { n ≤ MAX_CUSTOMERS }
     requires place { low ≤ n }
     ensures count { result ≡ pairs_before n low }
-    ensures small { result ≤ 244 * 244 }
+    ensures small { result ≤ MAX_CUSTOMERS * MAX_CUSTOMERS }
 {
     low * (2 * n + 1 - low) / 2
 }
 
 /// The variable of a lower and a higher place.
 fn pair(n: u32, low: u32, high: u32) -> u32
-    requires few { n ≤ 244 }
+    requires few { n ≤ MAX_CUSTOMERS }
     requires order { low < high }
     requires place { high ≤ n }
     ensures { result ≡ pairs_before n low + (high - low - 1) }
@@ -49,7 +49,7 @@ fn pair(n: u32, low: u32, high: u32) -> u32
 
 /// The variable of two places, in either order.
 pub(crate) fn variable_at(n: u32, u: u32, v: u32) -> u32
-    requires few { n ≤ 244 }
+    requires few { n ≤ MAX_CUSTOMERS }
     requires first { u ≤ n }
     requires second { v ≤ n }
     requires different { u ≢ v }
@@ -60,7 +60,7 @@ pub(crate) fn variable_at(n: u32, u: u32, v: u32) -> u32
 
 /// The variable of the two places of an arc, of which the head may be the sink.
 pub(crate) fn arc_variable(n: u32, tail: u32, head: u32) -> u32
-    requires few { n ≤ 244 }
+    requires few { n ≤ MAX_CUSTOMERS }
     requires from { tail ≤ n }
     requires to { 1 ≤ head }
     requires different { head ≢ tail }

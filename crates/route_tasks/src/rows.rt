@@ -5,6 +5,7 @@ ghost use Rattle.route_tasks.specs.Places.{customers, other, over_pairs, variabl
 ghost use Rattle.route_tasks.specs.ModelOf.{term_of, terms_of, row_of, rows_of, var_of, vars_of};
 
 use crate::distances::distance;
+use crate::limits::MAX_CUSTOMERS;
 use crate::places::{customer_count, place, variable_at};
 use crate::task::RouteTask;
 use path_graph::{List, NoMemory};
@@ -54,7 +55,7 @@ pub(crate) fn vars(alloc: Global, task: &RouteTask) -> Result<List<Var>, NoMemor
 
 /// The term of the pair of a customer with the `k`-th other place.
 fn term(n: u32, i: u32, k: u32) -> RowTerm
-    requires few { n ≤ 244 }
+    requires few { n ≤ MAX_CUSTOMERS }
     requires customer { i ≤ n }
     requires place { k < n }
     ensures { result ≡ term_of n i (other i k) }
@@ -68,7 +69,7 @@ fn term(n: u32, i: u32, k: u32) -> RowTerm
 
 /// The variables of the pairs with a customer, each once.
 fn terms(alloc: Global, n: u32, i: u32) -> Result<List<RowTerm>, NoMemory>
-    requires few { n ≤ 244 }
+    requires few { n ≤ MAX_CUSTOMERS }
     requires place { i ≤ n }
     ensures { IfOk result (λ terms. terms ≡ terms_of n i) }
 {
@@ -81,7 +82,7 @@ fn terms(alloc: Global, n: u32, i: u32) -> Result<List<RowTerm>, NoMemory>
 
 /// The row of a customer: the pairs with it are used twice.
 fn row(alloc: Global, n: u32, i: u32) -> Result<Row, NoMemory>
-    requires few { n ≤ 244 }
+    requires few { n ≤ MAX_CUSTOMERS }
     requires place { i ≤ n }
     ensures { IfOk result (λ row. row ≡ row_of n i) }
 {
@@ -94,7 +95,7 @@ fn row(alloc: Global, n: u32, i: u32) -> Result<Row, NoMemory>
 
 /// The rows of the customers.
 pub(crate) fn rows(alloc: Global, n: u32) -> Result<List<Row>, NoMemory>
-    requires { n ≤ 244 }
+    requires { n ≤ MAX_CUSTOMERS }
     ensures { IfOk result (λ rows. rows ≡ rows_of n) }
 {
     let mut rows = List::new(alloc);

@@ -1,11 +1,8 @@
-use Rattle.std.proofs.Common.{◌≡◌, ◌∙◌, sym, ap, subst, List, [], ◌∷◌, ◌<◌, arith, ℕ, Err}
+use Rattle.std.proofs.Common.{◌∙◌, sym, ap, subst, List, [], ◌∷◌, arith, ℕ, Err}
 use Rattle.path_graph.specs.Walk.{GraphParts}
 use Rattle.route_model.specs.declared.parts.Var.{Var}
-use Rattle.route_model.specs.declared.parts.BuildFault.{BuildFault}
-use Rattle.route_model.specs.Parts.{ModelParts}
 use Rattle.route_model.specs.Fit.{ModelFits, cost_range}
-use Rattle.route_tasks.specs.Places.{customers}
-use Rattle.route_tasks.specs.ModelOf.{graph_of, vars_of, rows_of}
+use Rattle.route_tasks.specs.ModelOf.{rows_of}
 use Rattle.route_tasks.proofs.ModelLemmas.{model_fits, costs_fit, parts_are}
 use Rattle.route_tasks.proofs.building.build_model.Goals as goal
 

@@ -1,6 +1,6 @@
-use Rattle.std.proofs.Common.{◌≡◌, ap, arith, pos, sym, ◌∙◌}
+use Rattle.std.proofs.Common.{ap, arith}
 use Rattle.std.proofs.lemmas.Int.{ints}
-use Rattle.route_tasks.specs.Distance.{squared, root_of}
+use Rattle.route_tasks.specs.Distance.{root_of}
 use Rattle.route_tasks.proofs.DistanceLemmas.{root_is}
 use Rattle.route_tasks.proofs.distances.distance.Goals as goal
 

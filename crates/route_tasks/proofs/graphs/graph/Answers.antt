@@ -2,10 +2,8 @@ use Rattle.std.proofs.Common.{◌≡◌, List, ◌∙◌, subst, sym}
 use Rattle.path_graph.specs.declared.parts.GraphArc.{GraphArc}
 use Rattle.path_graph.specs.declared.parts.Vertex.{Vertex}
 use Rattle.path_graph.specs.declared.parts.Ends.{Ends}
-use Rattle.path_graph.specs.declared.fault.GraphFault.{GraphFault}
-use Rattle.path_graph.specs.declared.fault.GraphFault.TheVariants.{FreeCycle}
 use Rattle.path_graph.specs.Fit.{PartsFit}
-use Rattle.path_graph.specs.Free.{IsFreeCycle, HasNoFreeCycle}
+use Rattle.path_graph.specs.Free.{HasNoFreeCycle}
 use Rattle.path_graph.specs.Ranking.{IsCycleFault}
 use Rattle.route_tasks.specs.declared.task.RouteTask.{RouteTask}
 use Rattle.route_tasks.specs.Fit.{TaskFits}

@@ -1,10 +1,9 @@
-use Rattle.std.proofs.Common.{◌≡◌, ◌≢◌, ℕ, ◌≤◌, ◌<◌, ap, sym, ◌∙◌, arith, subst, length, List}
+use Rattle.std.proofs.Common.{◌≡◌, ℕ, ◌<◌, sym, arith, subst, length, List}
 use Rattle.path_graph.specs.declared.parts.GraphArc.{GraphArc}
 use Rattle.path_graph.specs.Parts.{arc_at}
 use Rattle.route_tasks.specs.declared.task.RouteTask.{RouteTask}
 use Rattle.route_tasks.specs.ModelOf.{arcs_of}
 use Rattle.route_tasks.proofs.ArcLemmas.{IsArc, arc_is}
-use Rattle.route_tasks.proofs.PairLemmas.{pair_at, few_pairs, variable_below}
 use Rattle.route_tasks.proofs.graphs.maps.Goals as goal
 
 here : (task : RouteTask) (arcs : List GraphArc) (a : ℕ) → arcs ≡ arcs_of task → a < length arcs → IsArc task (arc_at arcs a)

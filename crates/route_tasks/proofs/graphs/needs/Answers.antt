@@ -1,4 +1,4 @@
-use Rattle.std.proofs.Common.{◌≡◌, ap, ◌∙◌, pos, ℤ, ℕ, to_z, of_z, w32, rules}
+use Rattle.std.proofs.Common.{◌≡◌, ap, ◌∙◌, pos, ℕ, to_z, of_z, w32, rules}
 use Rattle.route_tasks.specs.declared.task.Stop.{Stop}
 use Rattle.route_tasks.specs.ModelOf.{stop_need}
 use Rattle.route_tasks.proofs.GraphLemmas.{laid_is}

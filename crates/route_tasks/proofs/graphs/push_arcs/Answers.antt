@@ -1,4 +1,4 @@
-use Rattle.std.proofs.Common.{◌≡◌, ℕ, ap, sym, ◌∙◌, true, false}
+use Rattle.std.proofs.Common.{◌≡◌, ℕ, ap, sym, ◌∙◌}
 use Rattle.route_tasks.specs.Places.{customers}
 use Rattle.route_tasks.specs.ModelOf.{arc_of, is_head}
 use Rattle.route_tasks.proofs.RangeLemmas.{pushed_kept, pushed_none}

@@ -1,4 +1,4 @@
-use Rattle.std.proofs.Common.{◌≡◌, ap, ◌∙◌, sym, pos, ℤ, ℕ, ◌+ℤ◌, ◌*ℤ◌, FitsSigned, to_z, of_z, rules, w32, w64}
+use Rattle.std.proofs.Common.{◌≡◌, ap, ◌∙◌, pos, ℤ, ◌+ℤ◌, ◌*ℤ◌, to_z, of_z, rules, w32, w64}
 use Rattle.route_tasks.specs.declared.limits.TheConstants.{TENTHS}
 use Rattle.route_tasks.specs.declared.task.Stop.{Stop}
 use Rattle.route_tasks.specs.Distance.{distance_of}

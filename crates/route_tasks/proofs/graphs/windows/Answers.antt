@@ -1,8 +1,7 @@
-use Rattle.std.proofs.Common.{◌≡◌, ap, ◌∙◌, pos, ◌*ℤ◌, refl}
+use Rattle.std.proofs.Common.{ap, ◌∙◌, pos, ◌*ℤ◌}
 use Rattle.path_graph.specs.declared.parts.Window.{Window}
 use Rattle.route_tasks.specs.declared.limits.TheConstants.{TENTHS}
 use Rattle.route_tasks.specs.declared.task.Stop.{Stop}
-use Rattle.route_tasks.specs.Places.{customers, place_at}
 use Rattle.route_tasks.specs.ModelOf.{window}
 use Rattle.route_tasks.proofs.GraphLemmas.{laid_is}
 use Rattle.route_tasks.proofs.graphs.windows.Goals as goal

@@ -1,4 +1,4 @@
-use Rattle.std.proofs.Common.{◌≡◌, ◌-◌, ◌<◌, length, subst, sym, arith, slice_index_or}
+use Rattle.std.proofs.Common.{◌-◌, ◌<◌, length, subst, arith}
 use Rattle.route_tasks.specs.Fit.{StopFits}
 use Rattle.route_tasks.proofs.places.place.Goals as goal
 

@@ -1,4 +1,4 @@
-use Rattle.std.proofs.Common.{◌≡◌, ℕ, map, take}
+use Rattle.std.proofs.Common.{◌≡◌, map, take}
 use Rattle.route_tasks.specs.Places.{place_at}
 use Rattle.route_tasks.specs.Routes.{visited}
 use Rattle.route_tasks.proofs.routing.route.Given as goal

@@ -1,4 +1,4 @@
-use Rattle.std.proofs.Common.{◌≡◌, List, ℕ, ap, ◌∙◌, map}
+use Rattle.std.proofs.Common.{List, ℕ, ap, ◌∙◌, map}
 use Rattle.route_tasks.specs.Places.{place_at}
 use Rattle.route_tasks.specs.Routes.{visited}
 use Rattle.route_tasks.proofs.WalkLemmas.{routes_pushed}

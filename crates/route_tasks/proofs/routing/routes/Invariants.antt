@@ -1,4 +1,4 @@
-use Rattle.std.proofs.Common.{◌≡◌, ℕ, map, take}
+use Rattle.std.proofs.Common.{◌≡◌, map, take}
 use Rattle.route_tasks.specs.Routes.{visited, numbers_of}
 use Rattle.route_tasks.proofs.routing.routes.Given as goal
 

@@ -3,7 +3,6 @@ use Rattle.path_graph.specs.declared.parts.GraphArc.{GraphArc}
 use Rattle.route_model.specs.declared.plan.Taken.{Taken}
 use Rattle.route_tasks.proofs.WalkLemmas.{plan_known}
 use Rattle.route_tasks.proofs.PlanLemmas.{numbered_plan}
-use Rattle.route_tasks.proofs.MadeLemmas.{way_made}
 use Rattle.std.proofs.Common.{Result, Ok, Err, map}
 use Rattle.std.specs.Prelude.{IfOk}
 use Rattle.path_graph.specs.declared.list.NoMemory.{NoMemory}

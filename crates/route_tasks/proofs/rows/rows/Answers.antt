@@ -1,4 +1,4 @@
-use Rattle.std.proofs.Common.{◌≡◌, [], ◌∙◌}
+use Rattle.std.proofs.Common.{[]}
 use Rattle.route_tasks.specs.ModelOf.{row_of}
 use Rattle.route_tasks.proofs.RangeLemmas.{pushed}
 use Rattle.route_tasks.proofs.rows.rows.Goals as goal

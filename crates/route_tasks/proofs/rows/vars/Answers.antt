@@ -1,4 +1,4 @@
-use Rattle.std.proofs.Common.{◌≡◌, ℕ, ◌+◌, ◌-◌, map}
+use Rattle.std.proofs.Common.{ℕ, ◌+◌, ◌-◌, map}
 use Rattle.std.specs.List.{range_with_len}
 use Rattle.route_tasks.specs.Places.{customers}
 use Rattle.route_tasks.specs.ModelOf.{var_of}
