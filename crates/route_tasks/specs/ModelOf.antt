@@ -53,7 +53,8 @@ set_of n v = if nat_lt 0 v && not (nat_lt n v) then Some (v - 1) else None
 abbrev pub vertex_of : RouteTask → ℕ → Vertex
 vertex_of task v = record { set = set_of (customers task) v; windows = windows_of task v }
 
--- an arc consumes the service at its tail and the distance, a stop at each customer, and the demand at its head: the depot has none
+-- an arc consumes the service at its tail and the distance, a stop at each customer, and the demand at its head, of which
+-- the depot has none
 abbrev pub time_need : RouteTask → ℕ → ℕ → ℤ
 time_need task tail head = (TENTHS *ℤ (place_at task tail).service) +ℤ pos (distance_at task tail head)
 
@@ -100,13 +101,17 @@ graph_of task = record { ends = ends_of task; vertices = vertices_of task; arcs 
 abbrev pub mapped_of : ℕ → GraphArc → List ℕ
 mapped_of n arc = variable n arc.tail (or_depot n arc.head) ∷ []
 
--- a variable for each pair of places: it costs their distance, and a customer alone on a route uses that of the depot twice
+-- a variable for each pair of places: it costs their distance, and a customer alone on a route uses that with the depot
+-- twice
 abbrev pub var_of : RouteTask → ℕ → ℕ → Var
 var_of task low high = record {
   low = pos 0;
   high = if low == 0 then pos 2 else pos 1;
   cost = pos (distance_at task low high);
 }
+
+abbrev pub vars_from : RouteTask → ℕ → List Var
+vars_from task low = map (var_of task low) (range_with_len (low + 1) (customers task - low))
 
 abbrev pub vars_of : RouteTask → List Var
 vars_of task = over_pairs (customers task) (var_of task)

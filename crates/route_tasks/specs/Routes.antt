@@ -3,6 +3,7 @@ use Rattle.std.specs.Prelude.{◌≡◌, ℕ, ◌≤◌, ℤ, pos, ◌+ℤ◌, �
 use Rattle.std.specs.Int.{int_max}
 use Rattle.path_graph.specs.Parts.{arc_at}
 use Rattle.path_graph.specs.Sums.{sum_over}
+use Rattle.route_model.specs.declared.plan.Taken.{Taken}
 use Rattle.route_model.specs.declared.plan.Plan.{Plan}
 use Rattle.route_model.specs.Quantities.{cost_of}
 use Rattle.route_model.specs.Solution.{IsSolution}
@@ -12,7 +13,7 @@ use Rattle.route_tasks.specs.declared.task.Style.TheVariants.{Euclid, Tenths}
 use Rattle.route_tasks.specs.declared.task.RouteTask.{RouteTask}
 use Rattle.route_tasks.specs.Fit.{TaskFits}
 use Rattle.route_tasks.specs.Places.{customers, place_at, distance_at}
-use Rattle.route_tasks.specs.ModelOf.{arcs_of, model_of}
+use Rattle.route_tasks.specs.ModelOf.{time_need, arcs_of, model_of}
 
 -- the place of a customer
 abbrev pub IsCustomer : RouteTask → ℕ → Type 0
@@ -21,7 +22,7 @@ IsCustomer task v = (1 ≤ v) × (v ≤ customers task)
 -- the time at v after a time at u: the service at u and the way, or else v opens later
 abbrev pub time_after : RouteTask → ℕ → ℤ → ℕ → ℤ
 time_after task u time v =
-    int_max (TENTHS *ℤ (place_at task v).ready) (time +ℤ ((TENTHS *ℤ (place_at task u).service) +ℤ pos (distance_at task u v)))
+    int_max (TENTHS *ℤ (place_at task v).ready) (time +ℤ time_need task u v)
 
 -- from a time at u on, each stop of a route and the depot at its end is reached before it closes
 abbrev pub KeepsTimes : RouteTask → ℕ → ℤ → List ℕ → Type 0
@@ -59,17 +60,23 @@ way_of task u (v ∷ rest) = pos (distance_at task u v) +ℤ way_of task v rest
 abbrev pub route_cost : RouteTask → List (List ℕ) → ℤ
 route_cost task routes = sum_over (way_of task 0) routes
 
--- the customers that a walk visits, and those of each path of a plan. In a solution each customer is visited once, so each path
--- is taken once, and stands once among the routes.
+-- the customers that a walk visits, and those of each path of a plan. In a solution each customer is visited once, so
+-- each path is taken once, and stands once among the routes.
 abbrev pub visited : RouteTask → List ℕ → List ℕ
 visited task arcs = filter (λ v. not (nat_lt (customers task) v)) (map (λ a. (arc_at (arcs_of task) a).head) arcs)
 
+abbrev pub routes_along : RouteTask → List Taken → List (List ℕ)
+routes_along task paths = map (λ t. visited task t.arcs) paths
+
 abbrev pub routes_in : RouteTask → Plan → List (List ℕ)
-routes_in task plan = map (λ t. visited task t.arcs) plan.paths
+routes_in task plan = routes_along task plan.paths
 
 -- routes by the numbers of their customers
+abbrev pub numbers_along : RouteTask → List ℕ → List ℕ
+numbers_along task route = map (λ v. (place_at task v).number) route
+
 abbrev pub numbers_of : RouteTask → List (List ℕ) → List (List ℕ)
-numbers_of task routes = map (map (λ v. (place_at task v).number)) routes
+numbers_of task routes = map (numbers_along task) routes
 
 -- these are the numbers of a route plan of this cost
 pub record IsNumberedPlan (task : RouteTask) (cost : ℤ) (numbers : List (List ℕ)) : Type 0 where
@@ -86,4 +93,6 @@ pub record HasSolution (task : RouteTask) (routes : List (List ℕ)) : Type 0 wh
 
 -- each route plan of a task has a solution of the task's model with equal cost
 abbrev pub RoutesHaveSolutionsLaw : Type 0
-RoutesHaveSolutionsLaw = (task : RouteTask) → TaskFits task → (routes : List (List ℕ)) → IsRoutePlan task routes → HasSolution task routes
+RoutesHaveSolutionsLaw =
+    (task : RouteTask) → TaskFits task
+    → (routes : List (List ℕ)) → IsRoutePlan task routes → HasSolution task routes

@@ -4,7 +4,7 @@ ghost use Rattle.route_model.specs.Solution.{IsSolution};
 ghost use Rattle.route_tasks.specs.Fit.{TaskFits};
 ghost use Rattle.route_tasks.specs.Places.{place_at, customers};
 ghost use Rattle.route_tasks.specs.ModelOf.{arcs_of, model_of};
-ghost use Rattle.route_tasks.specs.Routes.{visited, routes_in, numbers_of, IsNumberedPlan};
+ghost use Rattle.route_tasks.specs.Routes.{visited, routes_along, routes_in, numbers_along, numbers_of, IsNumberedPlan};
 
 use crate::graphs::arcs;
 use crate::places::{customer_count, place};
@@ -12,6 +12,15 @@ use crate::task::RouteTask;
 use path_graph::{GraphArc, List, NoMemory};
 use route_model::{Plan, Taken};
 use std::alloc::Global;
+
+/// The number of the node at a place.
+fn number_at(task: &RouteTask, v: u32) -> u32
+    requires { TaskFits task.now }
+    ensures { result ≡ (place_at task.now v).number }
+{
+    let stop = place(task, v);
+    stop.number
+}
 
 /// The numbers of the customers that a walk visits, in order.
 fn route(
@@ -23,13 +32,13 @@ fn route(
     requires fits { TaskFits task.now }
     requires arcs_of_task { arcs.now ≡ arcs_of task.now }
     requires known { All (λ a. a < length arcs.now) walk.now }
-    ensures { IfOk result (λ numbers. numbers ≡ map (λ v. (place_at task.now v).number) (visited task.now walk.now)) }
+    ensures { IfOk result (λ numbers. numbers ≡ numbers_along task.now (visited task.now walk.now)) }
 {
     let mut numbers = List::new(alloc);
     for a in walk {
         let head = arcs[*a as usize].head;
         if head <= customer_count(task) {
-            numbers.push(place(task, head).number)?;
+            numbers.push(number_at(task, head))?;
         }
     }
     Ok(numbers)
@@ -45,7 +54,7 @@ fn routes(
     requires fits { TaskFits task.now }
     requires arcs_of_task { arcs.now ≡ arcs_of task.now }
     requires known { All (λ t. All (λ a. a < length arcs.now) t.arcs) paths.now }
-    ensures { IfOk result (λ routes. routes ≡ numbers_of task.now (map (λ t. visited task.now t.arcs) paths.now)) }
+    ensures { IfOk result (λ routes. routes ≡ numbers_of task.now (routes_along task.now paths.now)) }
 {
     let mut routes = List::new(alloc);
     for taken in paths {

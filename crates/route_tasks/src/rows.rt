@@ -2,7 +2,7 @@ ghost use Rattle.std.specs.Prelude.{◌≡◌, ◌≢◌, ℕ, ◌+◌, ◌<◌,
 ghost use Rattle.std.specs.List.{range_with_len};
 ghost use Rattle.route_tasks.specs.Fit.{TaskFits};
 ghost use Rattle.route_tasks.specs.Places.{customers, other, over_pairs, variable, distance_at};
-ghost use Rattle.route_tasks.specs.ModelOf.{term_of, terms_of, row_of, rows_of, var_of, vars_of};
+ghost use Rattle.route_tasks.specs.ModelOf.{term_of, terms_of, row_of, rows_of, var_of, vars_from, vars_of};
 
 use crate::distances::distance;
 use crate::limits::MAX_CUSTOMERS;
@@ -33,7 +33,7 @@ fn push_vars(
 ) -> Result<(), NoMemory>
     requires fits { TaskFits task.now }
     requires place { low < customers task.now }
-    ensures { OnOk result (vars.new ≡ vars.old ++ map (var_of task.now low) (range_with_len (low + 1) (customers task.now - low))) }
+    ensures { OnOk result (vars.new ≡ vars.old ++ vars_from task.now low) }
 {
     for high in low + 1..customer_count(task) + 1 {
         vars.push(var(task, low, high))?;
