@@ -13,7 +13,7 @@ use Rattle.route_tasks.specs.declared.task.Style.TheVariants.{Euclid, Tenths}
 use Rattle.route_tasks.specs.declared.task.RouteTask.{RouteTask}
 use Rattle.route_tasks.specs.Fit.{TaskFits}
 use Rattle.route_tasks.specs.Places.{customers, place_at, distance_at}
-use Rattle.route_tasks.specs.ModelOf.{time_need, arcs_of, model_of}
+use Rattle.route_tasks.specs.ModelOf.{arcs_of, model_of}
 
 -- the place of a customer
 abbrev pub IsCustomer : RouteTask → ℕ → Type 0
@@ -22,7 +22,8 @@ IsCustomer task v = (1 ≤ v) × (v ≤ customers task)
 -- the time at v after a time at u: the service at u and the way, or else v opens later
 abbrev pub time_after : RouteTask → ℕ → ℤ → ℕ → ℤ
 time_after task u time v =
-    int_max (TENTHS *ℤ (place_at task v).ready) (time +ℤ time_need task u v)
+    int_max (TENTHS *ℤ (place_at task v).ready)
+    (time +ℤ ((TENTHS *ℤ (place_at task u).service) +ℤ pos (distance_at task u v)))
 
 -- from a time at u on, each stop of a route and the depot at its end is reached before it closes
 abbrev pub KeepsTimes : RouteTask → ℕ → ℤ → List ℕ → Type 0
