@@ -5,9 +5,6 @@ use Rattle.search_tree.specs.Search.{slots_in}
 use Rattle.solve_run.proofs.RoundLemmas.{grown_goes, some_open}
 use Rattle.solve_run.proofs.growing.stepped.Goals as goal
 
-pub give_way-requires-in-Grown : goal.give_way-requires-in-Grown
-give_way-requires-in-Grown c = c.requires.step.is_open.within
-
 pub label_limit-requires-clause-some_open : goal.label_limit-requires-clause-some_open
 label_limit-requires-clause-some_open c = some_open (slots_in c.args.search) c.args.at (c.requires.step.place, c.requires.step.is_open)
 
