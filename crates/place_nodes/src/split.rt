@@ -158,12 +158,7 @@ fn both_open(
 }
 
 /// Both parts of the place: the box up to the number of the split, and the box above it.
-fn parts(
-    alloc: Global,
-    spot: &Spot,
-    split: Split,
-    value: i64,
-) -> Result<Vec<OpenPlace>, NoMemory>
+fn parts(alloc: Global, spot: &Spot, split: Split, value: i64) -> Result<Vec<OpenPlace>, NoMemory>
     requires { split.at <ℤ (box_in spot.now split.quantity).high }
     ensures { IfOk result (λ opened. all_valued (reverse opened.items) ≡ parts_opened spot.now split value) }
 {

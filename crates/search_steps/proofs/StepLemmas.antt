@@ -8,7 +8,6 @@ use Rattle.path_graph.specs.declared.list.NoMemory.{NoMemory}
 use Rattle.route_model.specs.declared.places.Span.{Span}
 use Rattle.route_model.specs.declared.places.Spot.{Spot}
 use Rattle.route_model.specs.Parts.{ModelParts}
-use Rattle.proof_rules.specs.OpenTrees.{Valued}
 use Rattle.made_nodes.specs.declared.node.MadeNode.{MadeNode}
 use Rattle.made_nodes.specs.Made.{StaysOpen, made_children}
 use Rattle.search_tree.specs.declared.growing.Grown.{Grown}

@@ -122,7 +122,9 @@ pub(crate) fn grow_round(
         }
         OpenItem::Place(spot) => {
             let spot = spot.copy(alloc)?;
-            place_round(alloc, model, limits, search, at, budget, &spot, value, columns)
+            place_round(
+                alloc, model, limits, search, at, budget, &spot, value, columns,
+            )
         }
     }
 }

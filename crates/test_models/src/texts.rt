@@ -242,6 +242,30 @@ arc 3 4 0
 end
 ";
 
+/// A chain with two arcs from each vertex to the next: sixteen walks, of which one keeps the boxes of four variables.
+pub const SIXTEEN_WALKS: &str = "vrpmodel 1
+var 1 1 0
+var 1 1 0
+var 1 1 0
+var 1 1 0
+var 0 4 1
+graph 5 0 4 1 1 1 0
+vertex - 0 0
+vertex - 0 0
+vertex - 0 0
+vertex - 0 0
+vertex - 0 0
+arc 0 1 0
+arc 0 1 0 0 4
+arc 1 2 0
+arc 1 2 0 1 4
+arc 2 3 0
+arc 2 3 0 2 4
+arc 3 4 0
+arc 3 4 0 3 4
+end
+";
+
 /// Two graphs of one arc each, and a row that wants a path of each: the one costs 5 and the other 2.
 pub const GRAPHS: &str = "vrpmodel 1
 var 1 1 5

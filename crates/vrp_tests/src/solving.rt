@@ -152,25 +152,32 @@ fn stopped_at_labels(rt: HostRuntime) -> Result<(), Fail> {
     Ok(())
 }
 
-/// One node is the list of all walks at the root place, whose counts are open.
+/// One node is the split of the root place, at the bound of half of three walks of cost 2; both parts are open.
 #[test]
 fn stopped_at_nodes(rt: HostRuntime) -> Result<(), Fail> {
-    for (name, input, text) in [(
-        "four vertices",
-        texts::SETS,
-        "node limit 1\nbound 0\nincumbent none\n",
-    )] {
-        solves(
-            &rt,
-            rt.alloc(),
-            "solve --nodes 1",
-            input.as_bytes(),
-            6,
-            text.as_bytes(),
-            name,
-        )?;
-    }
-    Ok(())
+    solves(
+        &rt,
+        rt.alloc(),
+        "solve --nodes 1",
+        texts::CUSTOMERS.as_bytes(),
+        6,
+        b"node limit 1\nbound 3\nincumbent none\n",
+        "three customers",
+    )
+}
+
+/// With multipliers the root place closes by tables of nine labels, where a list of walks would have thirty lines.
+#[test]
+fn closed_at_the_root(rt: HostRuntime) -> Result<(), Fail> {
+    solves(
+        &rt,
+        rt.alloc(),
+        "solve --labels 20",
+        texts::SIXTEEN_WALKS.as_bytes(),
+        0,
+        b"optimal 4\npath 0 1 1 3 5 7\nproof 1\nclose\n",
+        "sixteen walks",
+    )
 }
 
 #[test]

@@ -1,4 +1,4 @@
-use Rattle.std.proofs.Common.{◌≡◌, ℕ, List, All, sym, subst}
+use Rattle.std.proofs.Common.{ℕ, List, All, sym, subst}
 use Rattle.path_graph.specs.declared.set_bits.SetBits.{SetBits}
 use Rattle.proof_check.specs.Keeps.{IsKnown}
 use Rattle.place_nodes.proofs.NearLemmas.{lines_known}

@@ -1,5 +1,4 @@
 use Rattle.std.proofs.Common.{◌≡◌, ℤ, List, w64, to_z, of_z, sym, subst, rules}
-use Rattle.std.proofs.lemmas.Int.{to_z-of_z}
 use Rattle.open_tree.specs.declared.slots.Slot.{Slot}
 use Rattle.open_tree.specs.Slots.{IsOpenAt}
 use Rattle.open_tree.proofs.PlaceLaws.{open_among}

@@ -1,5 +1,4 @@
-use Rattle.std.proofs.Common.{◌≡◌, ℤ, Some, w64, to_z, of_z, sym, subst, rules}
-use Rattle.std.proofs.lemmas.Int.{to_z-of_z}
+use Rattle.std.proofs.Common.{◌≡◌, Some, w64, to_z, of_z, sym, subst, rules}
 use Rattle.route_model.specs.Fit.{IsModel}
 use Rattle.route_model.specs.Parts.{ModelParts}
 use Rattle.made_nodes.specs.Better.{IsBetter}

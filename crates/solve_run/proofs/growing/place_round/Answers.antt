@@ -1,4 +1,4 @@
-use Rattle.std.proofs.Common.{◌≡◌, ◌≤ℤ◌, ℤ, List, Vec, Global, w64, to_z, of_z, sym, subst, rules}
+use Rattle.std.proofs.Common.{◌≡◌, ◌≤ℤ◌, ℤ, Vec, Global, w64, to_z, of_z, sym, subst, rules}
 use Rattle.std.proofs.lemmas.Int.{to_z-of_z}
 use Rattle.route_model.specs.Costs.{cost_above_all}
 use Rattle.open_tree.specs.declared.slots.Slot.{Slot}
