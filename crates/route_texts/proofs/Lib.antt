@@ -2,3 +2,5 @@ pub mod CutLemmas
 pub mod WordLemmas
 pub mod NumberLemmas
 pub mod VrptwFitLemmas
+pub mod NodeLemmas
+pub mod CvrpFitLemmas

@@ -5,3 +5,6 @@ pub mod Gives
 pub mod Reading
 pub mod Stops
 pub mod Vrptw
+pub mod CvrpDraft
+pub mod CvrpLines
+pub mod CvrpText

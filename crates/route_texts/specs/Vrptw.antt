@@ -3,17 +3,16 @@ use Rattle.std.specs.Prelude.{◌≡◌, ℕ, ◌≤◌, ℤ, pos, ◌≤ℤ◌,
 use Rattle.std.specs.List.{list_all}
 use Rattle.std.specs.Ordering.{int_eq}
 use Rattle.vrp_lex.specs.Text.{number_of}
-use Rattle.route_tasks.specs.declared.limits.TheConstants.{MAX_COORDINATE, MAX_CUSTOMERS, MAX_LOAD, MAX_TIME, MAX_SERVICE, MAX_NUMBER, MAX_VEHICLES}
+use Rattle.route_tasks.specs.declared.limits.TheConstants.{MAX_CUSTOMERS, MAX_LOAD, MAX_TIME, MAX_SERVICE, MAX_NUMBER, MAX_VEHICLES}
 use Rattle.route_tasks.specs.declared.task.Stop.{Stop}
 use Rattle.route_tasks.specs.declared.task.Style.TheVariants as style
 use Rattle.route_tasks.specs.declared.task.RouteTask.{RouteTask}
-use Rattle.path_graph.specs.Within.{IsWithin}
 use Rattle.route_tasks.specs.Fit.{IsFromTo, StopFits, AllDiffer}
 use Rattle.route_texts.specs.declared.fault.RouteKind.{RouteKind}
 use Rattle.route_texts.specs.declared.fault.RouteKind.TheVariants as kind
 use Rattle.route_texts.specs.declared.fault.RouteFault.{RouteFault}
 use Rattle.route_texts.specs.declared.vrptw_draft.Fleet.{Fleet}
-use Rattle.route_texts.specs.declared.vrptw_draft.Point.{Point}
+use Rattle.route_texts.specs.declared.stops.Point.{Point}
 use Rattle.route_texts.specs.declared.vrptw_draft.Times.{Times}
 use Rattle.route_texts.specs.declared.vrptw_draft.VrptwDraft.{VrptwDraft}
 use Rattle.route_texts.specs.Words.{Words, words_in, are_some_words, Wants, ◌>>=◌, ◌>>◌, give, fault_if, number_in, natural_in, whole, after}
@@ -145,10 +144,6 @@ pub record FleetFits (f : Fleet) : Type 0 where
   pub some_vehicles : 1 ≤ f.vehicles
   pub few_vehicles : f.vehicles ≤ MAX_VEHICLES
   pub capacity_fits : IsFromTo (pos 1) MAX_LOAD f.capacity
-
-pub record PointFits (p : Point) : Type 0 where
-  pub across : IsWithin MAX_COORDINATE p.x
-  pub along : IsWithin MAX_COORDINATE p.y
 
 pub record TimesFit (t : Times) : Type 0 where
   pub opens : pos 0 ≤ℤ t.ready

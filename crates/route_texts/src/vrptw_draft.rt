@@ -8,13 +8,6 @@ pub struct Fleet {
     pub capacity: i32,
 }
 
-/// Where a stop lies.
-#[derive(Clone, Copy, Debug)]
-pub struct Point {
-    pub x: i32,
-    pub y: i32,
-}
-
 /// When a stop is served, and for how long.
 #[derive(Clone, Copy, Debug)]
 pub struct Times {

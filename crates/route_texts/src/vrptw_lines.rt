@@ -1,14 +1,14 @@
-ghost use Rattle.std.specs.Prelude.{◌≡◌, pos, None, is_some, IfOk, OnOk};
-ghost use Rattle.std.specs.Ordering.{int_eq};
+ghost use Rattle.std.specs.Prelude.{◌≡◌, None, is_some, IfOk, OnOk};
 ghost use Rattle.vrp_lex.specs.Text.{number_of};
 ghost use Rattle.route_texts.specs.Words.{words_in, whole};
 ghost use Rattle.route_texts.specs.Gives.{Gives};
 ghost use Rattle.route_texts.specs.Vrptw.{are_numbers, is_row, stop_of, is_taken, depot_has, fleet_wanted, new_number, point_wanted, times_wanted, stop_wanted, fleet_row, depot_row, customer_row, row, vrptw_line};
-ghost use Rattle.route_texts.specs.Vrptw.{FleetFits, IsNewNumber, PointFits, TimesFit, IsNewStop, VrptwFits};
+ghost use Rattle.route_texts.specs.Stops.{PointFits};
+ghost use Rattle.route_texts.specs.Vrptw.{FleetFits, IsNewNumber, TimesFit, IsNewStop, VrptwFits};
 
 use crate::fault::{LineFault, RouteKind};
-use crate::stops::has_number;
-use crate::vrptw_draft::{Fleet, Point, Times, VrptwDraft};
+use crate::stops::{Point, has_number, is_zero};
+use crate::vrptw_draft::{Fleet, Times, VrptwDraft};
 use crate::word_reader::{fault_if, has_word, natural_in, number_in};
 use crate::words::split_word;
 use route_tasks::{MAX_CUSTOMERS, MAX_LOAD, MAX_NUMBER, MAX_SERVICE, MAX_TIME, MAX_VEHICLES, Stop};
@@ -154,12 +154,6 @@ fn fleet_row(draft: &mut VrptwDraft, line: &[u8]) -> Result<(), LineFault>
     fault_if(RouteKind::Word, has_word(words))?;
     draft.fleet = Some(fleet);
     Ok(())
-}
-
-fn is_zero(demand: i32) -> bool
-    ensures { result ≡ int_eq demand (pos 0) }
-{
-    demand == 0
 }
 
 fn depot_row(draft: &mut VrptwDraft, line: &[u8]) -> Result<(), LineFault>
