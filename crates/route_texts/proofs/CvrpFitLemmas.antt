@@ -1,14 +1,12 @@
 -- What the lines of a CVRP text say stays within the limits.
-use Rattle.std.proofs.Common.{◌≡◌, ◌≢◌, ℕ, zero, suc, ◌+◌, ◌-◌, ◌<◌, ◌≤◌, ◌≤ℤ◌, ℤ, pos, neg_ℤ, List, [], ◌∷◌, ◌++◌, length, refl, ap, sym, ◌∙◌, subst, Bool, true, false, not, arith, rules, Option, None, Some}
-use Rattle.std.specs.Prelude.{◌==◌, ◌&&◌, map, filter, slice_index_or, slice_set, All, IfSome, unwrap_or}
+use Rattle.std.proofs.Common.{◌≡◌, ℕ, ◌+◌, ◌-◌, ◌≤◌, ℤ, pos, List, [], ◌∷◌, length, refl, sym, subst, Bool, true, false, not, arith, rules, Option, None, Some}
+use Rattle.std.specs.Prelude.{◌==◌, ◌&&◌, All, IfSome, unwrap_or}
 use Rattle.std.specs.Ordering.{int_eq}
 use Rattle.std.proofs.lemmas.Bool.Decides.{nat_tests, Decides-int_eq}
 use Rattle.std.proofs.lemmas.List.{length-set}
 use Rattle.std.proofs.lemmas.List.Elements.{All-nil, All-cons, All-head, All-tail, All-get_or, All-set}
-use Rattle.route_tasks.specs.declared.limits.TheConstants.{MAX_LOAD, MAX_CUSTOMERS}
-use Rattle.route_tasks.specs.declared.task.Stop.{Stop}
+use Rattle.route_tasks.specs.declared.limits.TheConstants.{MAX_LOAD}
 use Rattle.route_tasks.specs.declared.task.Style.TheVariants as style
-use Rattle.route_tasks.specs.Distance.{IsPlaced}
 use Rattle.route_tasks.specs.Fit.{IsFromTo, StopFits, AllDiffer, TaskFits}
 use Rattle.route_texts.specs.declared.stops.Point.{Point}
 use Rattle.route_texts.specs.declared.cvrp_draft.Node.{Node}
@@ -83,9 +81,11 @@ no_load (Some depot) nodes number z test node fits h =
     not_false : (b : Bool) → not b ≡ false → b ≡ true
     not_false true e = refl
     not_false false e = cc
+
     both : (a b : Bool) → (a && b) ≡ false → a ≡ true → b ≡ false
     both true b e h = e
     both false b e h = cc
+
     zero_of : number - 1 ≡ depot - 1 → z ≡ pos 0
     zero_of e =
         let depot_node : IsNode nodes depot = fits in

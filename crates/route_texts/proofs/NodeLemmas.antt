@@ -1,9 +1,9 @@
 -- Nodes whose numbers count on, and the nodes with what a line tells.
-use Rattle.std.proofs.Common.{◌≡◌, ◌≢◌, ℕ, zero, suc, ◌+◌, ◌-◌, ◌<◌, ◌≤◌, ℤ, pos, List, [], ◌∷◌, ◌++◌, length, refl, ap, sym, ◌∙◌, Bool, true, false, not, arith, get_or, Option, None, Some}
-use Rattle.std.specs.Prelude.{◌==◌, map, filter, slice_index, slice_index_or, slice_set, All, IfSome}
+use Rattle.std.proofs.Common.{◌≡◌, ◌≢◌, ℕ, zero, suc, ◌+◌, ◌<◌, ◌≤◌, ℤ, pos, List, [], ◌∷◌, ◌++◌, length, refl, ap, ◌∙◌, Bool, true, false, arith, Option}
+use Rattle.std.specs.Prelude.{◌==◌, map, slice_index_or, slice_set, All, IfSome}
 use Rattle.std.proofs.lemmas.Bool.Decides.{nat_tests}
-use Rattle.std.proofs.lemmas.List.{length-append, length-set}
-use Rattle.std.proofs.lemmas.List.Elements.{All-nil, All-cons, All-head, All-tail, All-push}
+use Rattle.std.proofs.lemmas.List.{length-append}
+use Rattle.std.proofs.lemmas.List.Elements.{All-nil, All-push}
 use Rattle.route_tasks.specs.Fit.{AllDiffer}
 use Rattle.route_tasks.specs.declared.task.Stop.{Stop}
 use Rattle.route_texts.specs.declared.cvrp_draft.Node.{Node}

@@ -1,8 +1,7 @@
 -- Numbers of stops that differ.
-use Rattle.std.proofs.Common.{◌≡◌, ◌≢◌, ℕ, zero, suc, ◌+◌, ◌<◌, List, [], ◌∷◌, ◌++◌, length, refl, ap, sym, ◌∙◌, Bool, true, false, arith, get_or, inl, inr}
-use Rattle.std.specs.Prelude.{◌==◌, ◌||◌, ◌⊎◌, map, slice_index}
+use Rattle.std.proofs.Common.{◌≡◌, ◌≢◌, ℕ, zero, suc, ◌<◌, List, [], ◌∷◌, ◌++◌, length, refl, sym, Bool, true, false, arith}
+use Rattle.std.specs.Prelude.{◌==◌, ◌||◌, map, slice_index}
 use Rattle.std.proofs.lemmas.Bool.Decides.{nat_tests}
-use Rattle.std.proofs.lemmas.List.{get_or_append_left, get_or-append-add, length-append}
 use Rattle.route_tasks.specs.declared.task.Stop.{Stop}
 use Rattle.route_tasks.specs.Fit.{AllDiffer}
 use Rattle.route_texts.specs.Stops.{has_number}
@@ -28,6 +27,7 @@ AllDiffer-push (m ∷ ns) n differ absent =
   where
     no_head : (k : ℕ) → k < length ns → slice_index ns k ≢ m
     no_head k within e = differ 0 (suc k) (omega arith) (omega arith) (sym e)
+
     pushed : (ns : List ℕ) (n m i : ℕ) → i < length (ns ++ n ∷ []) → IsAbsent m ns → m ≢ n → slice_index (ns ++ n ∷ []) i ≢ m
     pushed [] n m zero below absent other e = other (sym e)
     pushed [] n m (suc i) below absent other e = absurd (omega arith)

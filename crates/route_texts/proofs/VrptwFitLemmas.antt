@@ -1,16 +1,16 @@
 -- What rows say stays within the limits.
-use Rattle.std.proofs.Common.{◌≡◌, ◌≢◌, ℕ, ◌+◌, ◌<◌, ◌≤◌, pos, List, [], ◌∷◌, ◌++◌, length, refl, ap, sym, ◌∙◌, subst, Bool, true, false, arith, Option, None, Some}
-use Rattle.std.specs.Prelude.{◌==◌, ◌||◌, map, All, IfSome}
+use Rattle.std.proofs.Common.{◌≡◌, ◌≢◌, ℕ, ◌≤◌, pos, List, [], ◌∷◌, ◌++◌, length, refl, ap, Bool, true, false, arith, Option, None, Some}
+use Rattle.std.specs.Prelude.{◌||◌, map}
 use Rattle.std.proofs.lemmas.List.{map-append, length-append}
 use Rattle.std.proofs.lemmas.List.Elements.{All-push}
 use Rattle.route_tasks.specs.declared.task.Stop.{Stop}
 use Rattle.route_tasks.specs.declared.task.Style.TheVariants as style
 use Rattle.route_tasks.specs.declared.limits.TheConstants.{MAX_CUSTOMERS}
-use Rattle.route_tasks.specs.Fit.{StopFits, AllDiffer, TaskFits}
+use Rattle.route_tasks.specs.Fit.{StopFits, TaskFits}
 use Rattle.route_texts.specs.declared.vrptw_draft.Fleet.{Fleet}
 use Rattle.route_texts.specs.declared.vrptw_draft.VrptwDraft.{VrptwDraft}
 use Rattle.route_texts.specs.Stops.{has_number}
-use Rattle.route_texts.specs.Vrptw.{depot_has, is_taken, numbers_with, IsNewStop, FleetFits, VrptwFits}
+use Rattle.route_texts.specs.Vrptw.{depot_has, numbers_with, IsNewStop, FleetFits, VrptwFits}
 use Rattle.route_texts.proofs.NumberLemmas.{IsAbsent, IsAbsent-stops, IsAbsent-cons, AllDiffer-push, AllDiffer-cons}
 
 both_false : (a b : Bool) → (a || b) ≡ false → (a ≡ false) × (b ≡ false)

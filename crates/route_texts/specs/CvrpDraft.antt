@@ -1,8 +1,6 @@
 -- What the lines of a CVRP text say so far.
-use Rattle.std.specs.Prelude.{◌≡◌, ℕ, zero, suc, ◌+◌, ◌-◌, ◌≤◌, ℤ, pos, List, [], ◌∷◌, ◌++◌, length, Bool, true, false, ◌&&◌, not, Option, None, Some, is_some, IfSome, All, slice_index_or, slice_set, ◌⊎◌}
+use Rattle.std.specs.Prelude.{ℕ, zero, suc, ◌-◌, ℤ, List, [], ◌∷◌, ◌++◌, Bool, true, false, ◌&&◌, None, Some, is_some, slice_index_or, slice_set}
 use Rattle.std.specs.List.{list_all}
-use Rattle.route_tasks.specs.declared.limits.TheConstants.{MAX_LOAD}
-use Rattle.route_tasks.specs.Fit.{IsFromTo}
 use Rattle.route_texts.specs.declared.stops.Point.{Point}
 use Rattle.route_texts.specs.declared.cvrp_draft.Key.{Key}
 use Rattle.route_texts.specs.declared.cvrp_draft.Key.TheVariants as key
@@ -11,7 +9,6 @@ use Rattle.route_texts.specs.declared.cvrp_draft.Section.TheVariants as section
 use Rattle.route_texts.specs.declared.cvrp_draft.Node.{Node}
 use Rattle.route_texts.specs.declared.cvrp_draft.Begun.{Begun}
 use Rattle.route_texts.specs.declared.cvrp_draft.CvrpDraft.{CvrpDraft}
-use Rattle.route_texts.specs.Stops.{PointFits}
 
 -- a node of which nothing is told but its number, and the nodes up to this number
 abbrev pub bare_node : ℕ → Node

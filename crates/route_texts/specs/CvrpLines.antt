@@ -1,5 +1,5 @@
 -- The lines of a CVRP text.
-use Rattle.std.specs.Prelude.{ℕ, ◌-◌, ℤ, pos, neg_ℤ, negsuc, unsigned_abs, int_lt, List, [], ◌∷◌, length, codes, Bool, true, false, ◌==◌, ◌||◌, ◌&&◌, not, if◌then◌else◌, Option, None, Some, is_some, Result, Ok, Err}
+use Rattle.std.specs.Prelude.{ℕ, ℤ, pos, neg_ℤ, negsuc, unsigned_abs, int_lt, List, [], ◌∷◌, length, codes, Bool, true, false, ◌==◌, ◌||◌, ◌&&◌, not, if◌then◌else◌, Option, None, Some, is_some, Result, Ok, Err}
 use Rattle.std.specs.List.{list_all}
 use Rattle.std.specs.Ordering.{int_eq}
 use Rattle.std.specs.Str.{bytes_eq}
@@ -126,7 +126,7 @@ demand_line d words =
     if are_demanded d.nodes then Err kind.Word
     else after (whole (demand_wanted d.nodes) words)
     (λ x. if is_depot d.depot x.0 && not (int_eq x.1 (pos 0)) then Err kind.Depot
-        else Ok (record d { nodes = with_demand d.nodes x.0 x.1 }))
+    else Ok (record d { nodes = with_demand d.nodes x.0 x.1 }))
 
 -- a line of the section of the depot: one node, which has no demand; and then -1
 abbrev pub has_load : Option ℤ → Bool

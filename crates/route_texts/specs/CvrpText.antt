@@ -8,7 +8,6 @@ use Rattle.route_tasks.specs.Fit.{IsFromTo}
 use Rattle.route_texts.specs.declared.fault.RouteKind.{RouteKind}
 use Rattle.route_texts.specs.declared.fault.RouteKind.TheVariants as kind
 use Rattle.route_texts.specs.declared.fault.RouteFault.{RouteFault}
-use Rattle.route_texts.specs.declared.stops.Point.{Point}
 use Rattle.route_texts.specs.declared.cvrp_draft.Node.{Node}
 use Rattle.route_texts.specs.declared.cvrp_draft.CvrpDraft.{CvrpDraft}
 use Rattle.route_texts.specs.Words.{words_in}

@@ -1,5 +1,5 @@
 -- What a call that reads a text returned.
-use Rattle.std.specs.Prelude.{◌≡◌, ℕ, ℤ, ◌≤ℤ◌, List, Result, Ok, Err}
+use Rattle.std.specs.Prelude.{◌≡◌, ℤ, ◌≤ℤ◌, Result, Ok, Err}
 use Rattle.route_texts.specs.declared.fault.RouteKind.{RouteKind}
 use Rattle.route_texts.specs.declared.fault.RouteFault.{RouteFault}
 use Rattle.route_texts.specs.declared.fault.RouteError.{RouteError}

@@ -1,6 +1,6 @@
 -- The words of a line, and what is wanted of them, one after the other, with the kind of the first fault.
-use Rattle.std.specs.Prelude.{ℕ, ℤ, pos, unsigned_abs, int_lt, List, [], ◌∷◌, filter, Bool, true, false, ◌==◌, ◌||◌, ◌&&◌, not, if◌then◌else◌, Option, None, Some, Result, Ok, Err}
-use Rattle.std.specs.List.{list_all, slice_split}
+use Rattle.std.specs.Prelude.{ℕ, ℤ, pos, unsigned_abs, int_lt, List, [], ◌∷◌, filter, Bool, true, false, ◌==◌, ◌||◌, if◌then◌else◌, Option, None, Some, Result, Ok, Err}
+use Rattle.std.specs.List.{slice_split}
 use Rattle.vrp_lex.specs.Text.{is_blank, is_some_bytes, number_of}
 use Rattle.route_texts.specs.declared.fault.RouteKind.{RouteKind}
 use Rattle.route_texts.specs.declared.fault.RouteKind.TheVariants as kind

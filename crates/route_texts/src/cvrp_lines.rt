@@ -70,12 +70,7 @@ fn bare_nodes(alloc: Global, count: u32) -> Result<List<Node>, NoMemory>
 }
 
 /// The value of a key.
-fn take_value(
-    draft: &mut CvrpDraft,
-    alloc: Global,
-    key: Key,
-    value: &[u8],
-) -> Result<(), LineFault>
+fn take_value(draft: &mut CvrpDraft, alloc: Global, key: Key, value: &[u8]) -> Result<(), LineFault>
     requires fits { CvrpFits draft.old }
     requires fresh { has_key draft.old key ≡ false }
     ensures gives { Gives (λ _. draft.new) result (value_read draft.old key (words_in value.now)) }
@@ -226,7 +221,10 @@ fn take_demand(draft: &mut CvrpDraft, line: &[u8]) -> Result<(), LineFault>
 {
     fault_if(RouteKind::Word, are_demanded(draft.nodes.as_slice()))?;
     let (number, demand) = demanded(&draft.nodes, line)?;
-    fault_if(RouteKind::Depot, is_loaded_depot(draft.depot, number, demand))?;
+    fault_if(
+        RouteKind::Depot,
+        is_loaded_depot(draft.depot, number, demand),
+    )?;
     load(&mut draft.nodes, number, demand);
     Ok(())
 }
@@ -260,7 +258,10 @@ fn set_depot(draft: &mut CvrpDraft, number: u32) -> Result<(), LineFault>
     ensures fits { OnOk result (CvrpFits draft.new) }
 {
     fault_if(RouteKind::Depot, draft.depot.is_some())?;
-    fault_if(RouteKind::Depot, has_load(node_at(&draft.nodes, number).demand))?;
+    fault_if(
+        RouteKind::Depot,
+        has_load(node_at(&draft.nodes, number).demand),
+    )?;
     draft.depot = Some(number);
     Ok(())
 }
@@ -327,11 +328,7 @@ fn begin(begun: &mut Begun, section: Section)
 }
 
 /// The name of a section, and what stands behind it.
-fn take_section(
-    draft: &mut CvrpDraft,
-    section: Section,
-    further: &[u8],
-) -> Result<(), LineFault>
+fn take_section(draft: &mut CvrpDraft, section: Section, further: &[u8]) -> Result<(), LineFault>
     requires { CvrpFits draft.old }
     ensures gives { Gives (λ _. draft.new) result
         (section_line draft.old section (words_in further.now)) }

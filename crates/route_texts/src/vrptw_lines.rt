@@ -173,7 +173,10 @@ fn customer_row(draft: &mut VrptwDraft, line: &[u8]) -> Result<(), LineFault>
     ensures gives { Gives (λ _. draft.new) result (customer_row draft.old (words_in line.now)) }
     ensures fits { OnOk result (VrptwFits draft.new) }
 {
-    fault_if(RouteKind::TooMany, draft.stops.len() == MAX_CUSTOMERS as usize)?;
+    fault_if(
+        RouteKind::TooMany,
+        draft.stops.len() == MAX_CUSTOMERS as usize,
+    )?;
     let stop = whole_stop(draft, line)?;
     draft.stops.push(stop)?;
     Ok(())

@@ -1,6 +1,5 @@
 use Rattle.std.proofs.Common.{◌≡◌, false}
-use Rattle.route_texts.specs.declared.cvrp_draft.Key.TheVariants as key
-use Rattle.route_texts.specs.CvrpDraft.{are_some_nodes, has_key}
+use Rattle.route_texts.specs.CvrpDraft.{are_some_nodes}
 use Rattle.route_texts.proofs.CvrpFitLemmas.{fits-nodes}
 use Rattle.route_texts.proofs.cvrp_lines.take_value.Goals as goal
 

@@ -1,4 +1,4 @@
-use Rattle.std.proofs.Common.{◌≡◌, ◌≤◌, length, pos, w32, FitsSigned, rules, arith, ap, ◌∙◌}
+use Rattle.std.proofs.Common.{◌≡◌, length, pos, w32, FitsSigned, rules, arith, ap, ◌∙◌}
 use Rattle.std.proofs.lemmas.Int.{to_z-of_z}
 use Rattle.route_tasks.specs.declared.limits.TheConstants.{MAX_LOAD}
 use Rattle.route_tasks.specs.Fit.{IsFromTo}

@@ -1,4 +1,4 @@
-use Rattle.std.proofs.Common.{◌≡◌, ◌≢◌, length, arith, rules}
+use Rattle.std.proofs.Common.{◌≢◌, length, arith}
 use Rattle.std.proofs.lemmas.Bool.Decides.{nat_tests}
 use Rattle.route_tasks.specs.declared.limits.TheConstants.{MAX_CUSTOMERS}
 use Rattle.route_texts.proofs.VrptwFitLemmas.{fits-customer}

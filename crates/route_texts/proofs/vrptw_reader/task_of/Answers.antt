@@ -1,7 +1,6 @@
-use Rattle.std.proofs.Common.{◌≡◌, ◌≢◌, List, [], Some, IfSome, w32, rules}
+use Rattle.std.proofs.Common.{◌≢◌, [], Some, w32, rules}
 use Rattle.std.proofs.lemmas.Int.{to_z-of_z}
 use Rattle.std.proofs.Common.{FitsSigned}
-use Rattle.route_tasks.specs.declared.task.Stop.{Stop}
 use Rattle.route_texts.specs.Vrptw.{FleetFits, VrptwFits}
 use Rattle.route_texts.proofs.VrptwFitLemmas.{fits-task}
 use Rattle.route_texts.proofs.vrptw_reader.task_of.Goals as goal

@@ -1,4 +1,4 @@
-use Rattle.std.proofs.Common.{◌≡◌, ◌+◌, drop, length, arith, sym}
+use Rattle.std.proofs.Common.{arith}
 use Rattle.std.proofs.lemmas.List.{take_rest}
 use Rattle.route_texts.proofs.CutLemmas.{cut_at-none, cut_at-some}
 use Rattle.route_texts.proofs.words.cut_at.Goals as goal
