@@ -4,3 +4,6 @@ pub mod NumberLemmas
 pub mod VrptwFitLemmas
 pub mod NodeLemmas
 pub mod CvrpFitLemmas
+pub mod RowLemmas
+pub mod RowsLaw
+pub mod Examples

@@ -5,6 +5,7 @@ pub mod Gives
 pub mod Reading
 pub mod Stops
 pub mod Vrptw
+pub mod VrptwRows
 pub mod CvrpDraft
 pub mod CvrpLines
 pub mod CvrpText
