@@ -6,4 +6,7 @@ pub mod NodeLemmas
 pub mod CvrpFitLemmas
 pub mod RowLemmas
 pub mod RowsLaw
+pub mod RowBackLemmas
+pub mod RowsBackLaw
+pub mod VrptwLaws
 pub mod Examples

@@ -98,16 +98,16 @@ task-ok (Some f) (Some depot) [] task e = cc
 task-ok (Some f) (Some depot) (s ∷ stops) task e = ap rows_of_task (ok_same _ task e)
 
 -- what follows a line that is read
-at_line-ok : {A : Type 0} (number : ℕ) (r : Result A RouteKind) (x : A) → at_line number r ≡ Ok x → r ≡ Ok x
+pub at_line-ok : {A : Type 0} (number : ℕ) (r : Result A RouteKind) (x : A) → at_line number r ≡ Ok x → r ≡ Ok x
 at_line-ok number (Ok y) x e = cc
 at_line-ok number (Err k) x e = cc
 
-record Goes {A B : Type 0} (r : Result A RouteKind) (next : A → Result B RouteFault) (y : B) : Type 0 where
-  got : A
-  first : r ≡ Ok got
-  then_read : next got ≡ Ok y
+pub record Goes {A B : Type 0} (r : Result A RouteKind) (next : A → Result B RouteFault) (y : B) : Type 0 where
+  pub got : A
+  pub first : r ≡ Ok got
+  pub then_read : next got ≡ Ok y
 
-go_on-ok : {A B : Type 0} (number : ℕ) (r : Result A RouteKind) (next : A → Result B RouteFault) (y : B) → go_on (at_line number r) next ≡ Ok y → Goes r next y
+pub go_on-ok : {A B : Type 0} (number : ℕ) (r : Result A RouteKind) (next : A → Result B RouteFault) (y : B) → go_on (at_line number r) next ≡ Ok y → Goes r next y
 go_on-ok number (Ok x) next y e = record { got = x; first = refl; then_read = e }
 go_on-ok number (Err k) next y e = cc
 

@@ -1,7 +1,9 @@
-ghost use Rattle.std.specs.Prelude.{◌<◌, ◌-◌, ◌^◌, length, IfOk};
+ghost use Rattle.std.specs.Prelude.{◌≡◌, ◌<◌, ◌-◌, ◌^◌, length, IfOk, IfErr};
+ghost use Rattle.route_tasks.specs.declared.task.RouteTask.{RouteTask};
 ghost use Rattle.route_tasks.specs.Fit.{TaskFits};
 ghost use Rattle.route_texts.specs.Gives.{Gives, GivesText};
 ghost use Rattle.route_texts.specs.Vrptw.{VrptwFits, task_of, vrptw_reading, vrptw_read};
+ghost use Rattle.route_texts.specs.VrptwRows.{SaysVrptw, IsVrptwRefusal};
 
 use crate::fault::{LineFault, RouteError, RouteKind};
 use crate::line_reader::{LineReader, read_lines};
@@ -64,6 +66,9 @@ impl LineReader for VrptwDraft {
 pub fn read_vrptw(alloc: Global, bytes: &[u8]) -> Result<RouteTask, RouteError>
     requires { length bytes.now < 2 ^ 32 - 1 }
     ensures gives { GivesText (λ task. task) result (vrptw_read bytes.now) }
+    ensures says { IfOk result (SaysVrptw bytes.now) }
+    ensures only { IfOk result (λ task. (other : RouteTask) → SaysVrptw bytes.now other → other ≡ task) }
+    ensures refused { IfErr result (IsVrptwRefusal bytes.now) }
     ensures fits { IfOk result TaskFits }
 {
     let fresh = VrptwDraft {
