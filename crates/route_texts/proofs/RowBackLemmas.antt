@@ -1,6 +1,6 @@
 -- The numbers of a row are read, where they lie within the limits.
-use Rattle.std.proofs.Common.{◌≡◌, ◌≢◌, ℕ, zero, suc, ◌+◌, ◌<◌, ◌≤◌, ℤ, pos, neg_ℤ, negsuc, ◌≤ℤ◌, List, [], ◌∷◌, ◌++◌, map, refl, ap, sym, ◌∙◌, Bool, true, false, not, arith, rules, Option, None, Some, Result, Ok, Err}
-use Rattle.std.specs.Prelude.{int_lt, ◌||◌, ◌&&◌, unwrap_or, unsigned_abs, is_some}
+use Rattle.std.proofs.Common.{◌≡◌, ℕ, ◌≤◌, ℤ, pos, neg_ℤ, negsuc, ◌≤ℤ◌, List, [], ◌∷◌, ◌++◌, refl, ◌∙◌, Bool, true, false, arith, rules, Option, None, Some, Result, Ok}
+use Rattle.std.specs.Prelude.{int_lt, ◌&&◌, unsigned_abs, is_some}
 use Rattle.std.proofs.lemmas.Bool.Decides.{nat_tests}
 use Rattle.std.proofs.lemmas.Int.{ints}
 use Rattle.vrp_lex.specs.Text.{number_of}
@@ -13,7 +13,7 @@ use Rattle.route_texts.specs.declared.stops.Point.{Point}
 use Rattle.route_texts.specs.declared.vrptw_draft.Fleet.{Fleet}
 use Rattle.route_texts.specs.declared.vrptw_draft.Times.{Times}
 use Rattle.route_texts.specs.Stops.{PointFits}
-use Rattle.route_texts.specs.Words.{Words, Wants, and_then, ◌>>=◌, ◌>>◌, give, fault_if, limited, number_in, natural_in, all_taken, whole}
+use Rattle.route_texts.specs.Words.{Words, Wants, and_then, ◌>>=◌, ◌>>◌, give, fault_if, number_in, natural_in, all_taken, whole}
 use Rattle.route_texts.specs.Vrptw.{are_numbers, fleet_wanted, new_number, point_wanted, times_wanted, stop_of, stop_wanted, FleetFits, TimesFit}
 use Rattle.route_texts.specs.VrptwRows.{values_of, stop_row}
 
@@ -120,9 +120,9 @@ times-back words t tail are fits =
     record {
       rest = c.rest;
       read =
-        and_then-back (number_in (pos 0) MAX_TIME words) next t.ready a.rest a.read
-        ∙ (and_then-back (number_in t.ready MAX_TIME a.rest) (last_one t.ready) t.due b.rest b.read
-        ∙ and_then-back (number_in (pos 0) MAX_SERVICE b.rest) (λ z. give (times t.ready t.due z)) t.service c.rest c.read);
+          and_then-back (number_in (pos 0) MAX_TIME words) next t.ready a.rest a.read
+          ∙ (and_then-back (number_in t.ready MAX_TIME a.rest) (last_one t.ready) t.due b.rest b.read
+          ∙ and_then-back (number_in (pos 0) MAX_SERVICE b.rest) (λ z. give (times t.ready t.due z)) t.service c.rest c.read);
       numbers = c.numbers;
       values = c.values;
     }
@@ -153,10 +153,10 @@ stop-back taken words x tail are fits free =
     record {
       rest = d.rest;
       read =
-        and_then-back (new_number taken words) next1 x.number a.rest a.read
-        ∙ (and_then-back (point_wanted a.rest) (next2 x.number) p b.rest b.read
-        ∙ (and_then-back (number_in (pos 0) MAX_LOAD b.rest) (next3 x.number p) x.demand c.rest c.read
-        ∙ and_then-back (times_wanted c.rest) (λ q. give (stop_of x.number p x.demand q)) t d.rest d.read));
+          and_then-back (new_number taken words) next1 x.number a.rest a.read
+          ∙ (and_then-back (point_wanted a.rest) (next2 x.number) p b.rest b.read
+          ∙ (and_then-back (number_in (pos 0) MAX_LOAD b.rest) (next3 x.number p) x.demand c.rest c.read
+          ∙ and_then-back (times_wanted c.rest) (λ q. give (stop_of x.number p x.demand q)) t d.rest d.read));
       numbers = d.numbers;
       values = d.values;
     }

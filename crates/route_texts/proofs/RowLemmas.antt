@@ -1,5 +1,5 @@
 -- What is read of the words of a row are its numbers.
-use Rattle.std.proofs.Common.{◌≡◌, ℕ, ℤ, pos, neg_ℤ, negsuc, List, [], ◌∷◌, ◌++◌, map, refl, ap, sym, ◌∙◌, Bool, true, false, Option, None, Some, Result, Ok, Err}
+use Rattle.std.proofs.Common.{◌≡◌, ℕ, ℤ, pos, neg_ℤ, negsuc, List, [], ◌∷◌, ◌++◌, refl, ap, ◌∙◌, Bool, true, false, Option, None, Some, Result, Ok, Err}
 use Rattle.std.specs.Prelude.{int_lt, ◌||◌, unwrap_or, unsigned_abs}
 use Rattle.vrp_lex.specs.Text.{number_of}
 use Rattle.route_tasks.specs.declared.limits.TheConstants.{MAX_LOAD, MAX_TIME, MAX_SERVICE, MAX_NUMBER, MAX_VEHICLES}

@@ -1,7 +1,7 @@
 -- A text whose rows are those of a task within the limits is read as the task.
-use Rattle.std.proofs.Common.{◌≡◌, ◌≢◌, ℕ, zero, suc, ◌+◌, ◌<◌, ◌≤◌, ℤ, pos, List, [], ◌∷◌, ◌++◌, map, refl, ap, sym, ◌∙◌, subst, Bool, true, false, arith, length, Option, None, Some, Result, Ok, Err, append_assoc, append-nil}
-use Rattle.std.specs.Prelude.{◌==◌, ◌||◌, ◌&&◌, if◌then◌else◌, All, slice_index}
-use Rattle.std.specs.List.{filter_map, cons_option}
+use Rattle.std.proofs.Common.{◌≡◌, ◌≢◌, ℕ, suc, ◌+◌, ◌<◌, ℤ, pos, List, [], ◌∷◌, ◌++◌, map, refl, ap, sym, ◌∙◌, Bool, true, false, arith, length, Option, None, Some, Result, Ok, append_assoc, append-nil}
+use Rattle.std.specs.Prelude.{◌==◌, ◌||◌, ◌&&◌, All, slice_index}
+use Rattle.std.specs.List.{filter_map}
 use Rattle.std.specs.Ordering.{int_eq}
 use Rattle.std.proofs.lemmas.Bool.Decides.{nat_tests, Decides-int_eq}
 use Rattle.std.proofs.lemmas.List.{map-append, length-append}
@@ -13,17 +13,16 @@ use Rattle.route_tasks.specs.declared.task.Style.TheVariants as style
 use Rattle.route_tasks.specs.declared.task.RouteTask.{RouteTask}
 use Rattle.route_tasks.specs.Fit.{StopFits, AllDiffer, TaskFits}
 use Rattle.route_texts.specs.declared.fault.RouteKind.{RouteKind}
-use Rattle.route_texts.specs.declared.fault.RouteKind.TheVariants as kind
 use Rattle.route_texts.specs.declared.fault.RouteFault.{RouteFault}
 use Rattle.route_texts.specs.declared.vrptw_draft.Fleet.{Fleet}
 use Rattle.route_texts.specs.declared.vrptw_draft.VrptwDraft.{VrptwDraft}
 use Rattle.route_texts.specs.Stops.{has_number}
-use Rattle.route_texts.specs.Words.{Words, words_in, are_some_words, whole, after}
+use Rattle.route_texts.specs.Words.{Words, words_in, are_some_words}
 use Rattle.route_texts.specs.Reading.{at_line, go_on, lines_read}
-use Rattle.route_texts.specs.Vrptw.{fleet_wanted, stop_wanted, depot_has, is_taken, are_numbers, is_row, row, vrptw_line, task_of, vrptw_reading, vrptw_read, FleetFits}
+use Rattle.route_texts.specs.Vrptw.{is_taken, are_numbers, is_row, row, vrptw_line, task_of, vrptw_reading, vrptw_read, FleetFits}
 use Rattle.route_texts.specs.VrptwRows.{values_of, row_of, rows_of, rows_of_task, SaysVrptw}
 use Rattle.route_texts.specs.VrptwRows as told
-use Rattle.route_texts.proofs.RowBackLemmas.{AreValues, fleet_told, stop_told}
+use Rattle.route_texts.proofs.RowBackLemmas.{fleet_told, stop_told}
 use Rattle.route_texts.proofs.RowsLaw.{fleet_row, rows_with, IsOrdered, Extends}
 
 head_same : {A : Type 0} (x y : A) (xs ys : List A) → x ∷ xs ≡ y ∷ ys → (x ≡ y) × (xs ≡ ys)

@@ -15,7 +15,7 @@ use Rattle.route_texts.specs.declared.vrptw_draft.Fleet.{Fleet}
 use Rattle.route_texts.specs.declared.vrptw_draft.VrptwDraft.{VrptwDraft}
 use Rattle.route_texts.specs.Words.{Words, words_in, whole, after}
 use Rattle.route_texts.specs.Reading.{at_line, go_on, lines_read}
-use Rattle.route_texts.specs.Vrptw.{fleet_wanted, stop_wanted, is_taken, is_row, row, stop_row, vrptw_line, task_of, vrptw_reading, vrptw_read}
+use Rattle.route_texts.specs.Vrptw.{fleet_wanted, stop_wanted, is_taken, is_row, row, vrptw_line, task_of, vrptw_reading, vrptw_read}
 use Rattle.route_texts.specs.VrptwRows.{values_of, row_of, rows_of, rows_of_task}
 use Rattle.route_texts.specs.VrptwRows as told
 use Rattle.route_texts.proofs.RowLemmas.{after-ok, ok_same, whole_fleet, whole_stop}

@@ -1,12 +1,11 @@
 -- What a reader of VRPTW texts gives, in terms of rows.
-use Rattle.std.proofs.Common.{◌≡◌, ℕ, ◌+◌, List, [], ◌∷◌, refl, ap, sym, ◌∙◌, Option, None, Some, Result, Ok, Err}
+use Rattle.std.proofs.Common.{◌≡◌, ℕ, ◌+◌, List, [], ◌∷◌, ap, sym, ◌∙◌, Option, None, Some, Result, Ok, Err}
 use Rattle.std.specs.Prelude.{IfOk, IfErr}
 use Rattle.route_tasks.specs.declared.task.Stop.{Stop}
 use Rattle.route_tasks.specs.declared.task.Style.TheVariants as style
 use Rattle.route_tasks.specs.declared.task.RouteTask.{RouteTask}
 use Rattle.route_tasks.specs.Fit.{TaskFits}
 use Rattle.vrp_lex.specs.Text.{lines_of}
-use Rattle.route_texts.specs.declared.fault.RouteKind.{RouteKind}
 use Rattle.route_texts.specs.declared.fault.RouteFault.{RouteFault}
 use Rattle.route_texts.specs.declared.fault.RouteError.{RouteError}
 use Rattle.route_texts.specs.declared.fault.RouteError.TheVariants as error
