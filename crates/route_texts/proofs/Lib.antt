@@ -1,0 +1,12 @@
+pub mod CutLemmas
+pub mod WordLemmas
+pub mod NumberLemmas
+pub mod VrptwFitLemmas
+pub mod NodeLemmas
+pub mod CvrpFitLemmas
+pub mod RowLemmas
+pub mod RowsLaw
+pub mod RowBackLemmas
+pub mod RowsBackLaw
+pub mod VrptwLaws
+pub mod Examples

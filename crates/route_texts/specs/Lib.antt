@@ -1,0 +1,11 @@
+pub mod Faults
+pub mod Words
+pub mod Places
+pub mod Gives
+pub mod Reading
+pub mod Stops
+pub mod Vrptw
+pub mod VrptwRows
+pub mod CvrpDraft
+pub mod CvrpLines
+pub mod CvrpText
