@@ -97,7 +97,7 @@ fn found_cost(alloc: Global, model: &Model) -> Result<Option<i64>, Fail> {
     let (_, above_all) = box_costs(model);
     let mut columns = begin_columns(alloc, model)?;
     let found = find_columns(alloc, model, &root, above_all, LABELS, &mut columns)?;
-    match found.best {
+    match &found.best {
         None => Ok(None),
         Some(best) => Ok(Some(best.cost)),
     }

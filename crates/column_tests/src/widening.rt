@@ -62,6 +62,19 @@ fn widened(near: &mut Near, model: &Model, arcs: &[u32], i: usize, j: usize) -> 
     Ok(widen(near, graph, 0, arcs))
 }
 
+/// The sets near a vertex of graph 0.
+fn sets_at(near: &Near, model: &Model, v: u32) -> Result<SetBits, Fail>
+    requires near { FitsGraphs near.now model.now.graphs }
+    requires graph { 0 < length model.now.graphs }
+{
+    let _sets = model.sets;
+    let graph = model.graphs.at(0);
+    if v >= graph.vertex_count() {
+        return Err(Fail::new("no vertex"));
+    }
+    Ok(near.at(0, v))
+}
+
 #[test]
 fn lists_between_two_visits(rt: HostRuntime) -> Result<(), Fail> {
     let model = read_model(rt.alloc(), THREE_STOPS.as_bytes())?;
@@ -71,6 +84,9 @@ fn lists_between_two_visits(rt: HostRuntime) -> Result<(), Fail> {
     let mut near = Near::new(rt.alloc(), model.graphs.as_slice())?;
     let walk = [0, 2, 3, 4];
     assert_eq!(rt; widened(&mut near, &model, &walk, 0, 2)?, 1, "one list grows");
+    let first = SetBits::empty().with(0);
+    assert_eq!(rt; sets_at(&near, &model, 2)?, first, "that of the vertex between");
+    assert_eq!(rt; sets_at(&near, &model, 1)?, SetBits::empty(), "no other list grows");
     assert_eq!(rt; widened(&mut near, &model, &walk, 0, 2)?, 0, "it has grown already");
     Ok(())
 }
