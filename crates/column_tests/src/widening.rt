@@ -83,10 +83,26 @@ fn lists_between_two_visits(rt: HostRuntime) -> Result<(), Fail> {
     }
     let mut near = Near::new(rt.alloc(), model.graphs.as_slice())?;
     let walk = [0, 2, 3, 4];
-    assert_eq!(rt; widened(&mut near, &model, &walk, 0, 2)?, 1, "one list grows");
+    assert_eq!(rt;
+        widened(&mut near, &model, &walk, 0, 2)?,
+        1,
+        "one list grows"
+    );
     let first = SetBits::empty().with(0);
-    assert_eq!(rt; sets_at(&near, &model, 2)?, first, "that of the vertex between");
-    assert_eq!(rt; sets_at(&near, &model, 1)?, SetBits::empty(), "no other list grows");
-    assert_eq!(rt; widened(&mut near, &model, &walk, 0, 2)?, 0, "it has grown already");
+    assert_eq!(rt;
+        sets_at(&near, &model, 2)?,
+        first,
+        "that of the vertex between"
+    );
+    assert_eq!(rt;
+        sets_at(&near, &model, 1)?,
+        SetBits::empty(),
+        "no other list grows"
+    );
+    assert_eq!(rt;
+        widened(&mut near, &model, &walk, 0, 2)?,
+        0,
+        "it has grown already"
+    );
     Ok(())
 }
